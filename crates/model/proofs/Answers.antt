@@ -1,0 +1,241 @@
+-- What the list of an event's conditions gives: the refusals rise, the smallest number is given, a refusal changes nothing and
+-- an intercept is entry alone. Assumes nothing.
+use mathlib.Core.Path.{_≡_, refl, sym, ap, _∙_, subst}
+use mathlib.Core.Bool.{Bool, true, false, not, cond, _&&_, _||_, false≢true, and-false}
+use mathlib.Core.List.{List, [], _∷_}
+use mathlib.Core.Logic.{⊎-elim}
+use mathlib.Core.Option.{Option, none, some}
+use Prim.Native.Nat.{ℕ, zero, suc, _≤_, _<_}
+use native.Mathlib.Omega.{arith}
+use lib.Dec.{leb, ltb, eqb}
+use borrow.Author.Tests.{leb-true, leb-false, ltb-true, eqb-true, eqb-false, eq-eqb}
+use Rattle.model.specs.declared.answer.Answer.{Answer}
+use Rattle.model.specs.declared.answer.Answer.the-variants.{Done, Refused, Intercept}
+use Rattle.model.specs.declared.answer.Refusal.{Refusal}
+use Rattle.model.specs.declared.answer.Refusal.the-variants.{Malformed, UndefinedOpcode, InvalidLevel, NotPermitted, AlreadyEnabled, NotEnabled, WriteOnce, KernelOnlyExecute, NoReceiver, HostDenies, TlbLocked, NoInterrupt}
+use Rattle.model.specs.declared.event.Event.{Event}
+use Rattle.model.specs.declared.event.Event.the-variants.{Enpart, Envp, Call, Ret, Read, Write, Fetch, Protect, Config, Secure, Flush, Rreg, Wreg, Tpr, Ack, Int, Pstat, Vstat, Caps}
+use Rattle.model.specs.declared.quantity.Access.{Access}
+use Rattle.model.specs.Answers.{refusalNumber, numberOf, valueOf, firstOf}
+use Rattle.model.specs.Claims.{conditions, rises, applies, Rising, Smallest, Unchanged, Entered, OnlyEntered}
+use Rattle.model.specs.Events.{byAccess}
+use Rattle.model.specs.Memory.{denies, receiver}
+use Rattle.model.specs.State.{State, processors, level, active, enabledOn}
+use Rattle.model.specs.Step.{Outcome, rule, maker, intercepted, nextFor, answered, ruled, step}
+use Rattle.model.specs.WellFormed.{wellFormed}
+use Rattle.model.proofs.Bools.{and-left, and-right, or-elim}
+use Rattle.model.proofs.Bounded.{least-found}
+
+-- Lists of conditions.
+-- No condition applies.
+abbrev pub Passed : List (Answer × Bool) → Type 0
+Passed [] = Unit
+Passed (c ∷ cs) = (c .1 ≡ false) × Passed cs
+
+-- None is an intercept.
+abbrev isRefusal : Answer → Bool
+isRefusal (Done x) = false
+isRefusal (Refused r) = true
+isRefusal (Intercept l) = false
+
+abbrev plain : List (Answer × Bool) → Bool
+plain [] = true
+plain (c ∷ cs) = isRefusal (c .0) && plain cs
+
+-- A proof for each answer that the list can give, with what is known there: the condition holds and those before it fail.
+abbrev Cases : (Answer → Type 0) → List (Answer × Bool) → Answer → Type 0
+Cases P [] a = P a
+Cases P (c ∷ cs) a = (c .1 ≡ true → P (c .0)) × (c .1 ≡ false → Cases P cs a)
+
+by-cases : (P : Answer → Type 0) (cs : List (Answer × Bool)) (a : Answer) → Cases P cs a → P (firstOf cs a)
+unfolding firstOf
+by-cases P [] a k = k
+by-cases P (c ∷ cs) a k = go (c .1) refl (λ e. by-cases P cs a (k .1 e))
+  where
+    go : (b : Bool) → c .1 ≡ b → (c .1 ≡ false → P (firstOf cs a)) → P (cond b (c .0) (firstOf cs a))
+    go true e r = k .0 e
+    go false e r = r e
+
+module _ (P : Answer → Type 0) (refused : (r : Refusal) → P (Refused r)) where
+  a-refusal : (a : Answer) → isRefusal a ≡ true → P a
+  a-refusal (Done x) e = absurd (false≢true e)
+  a-refusal (Refused r) e = refused r
+  a-refusal (Intercept l) e = absurd (false≢true e)
+
+  plain-cases : (cs : List (Answer × Bool)) (a : Answer) → plain cs ≡ true → (Passed cs → P a) → Cases P cs a
+  plain-cases [] a p f = f tt
+  plain-cases (c ∷ cs) a p f =
+      (λ e. a-refusal (c .0) (and-left (isRefusal (c .0)) (plain cs) p), λ e. plain-cases cs a (and-right (isRefusal (c .0)) (plain cs) p) (λ q. f (e, q)))
+
+  access-cases : (s : State) (v mode p : ℕ) (access : Access) (a : Answer) → (leb (processors s) v ≡ false → ltb (receiver s v mode p access) 4 ≡ true → P (Intercept (level (receiver s v mode p access)))) →
+      (Passed (byAccess s v mode p access) → P a) → Cases P (byAccess s v mode p access) a
+  access-cases s v mode p access a taken f = (
+    λ _. refused Malformed,
+    λ inside. (
+      λ _. refused Malformed,
+      λ h₂. (
+        λ _. refused Malformed,
+        λ h₃. (
+          λ h. taken inside h,
+          λ h₉. (
+            λ _. refused NoReceiver,
+            λ h₁₀. (
+              λ _. refused HostDenies,
+              λ h₁₁.
+                  f (inside, (h₂, (h₃, (h₉, (h₁₀, (h₁₁, tt)))))),
+            ),
+          ),
+        ),
+      ),
+    ),
+  )
+
+-- Every event's conditions are plain and rise, or are those of an access by its maker.
+data Kind (s : State) (e : Event) : Type 0 where
+  ordinary : (plain (rule s e .refusals) && rises 1 (rule s e .refusals)) ≡ true → Kind s e
+  access : (v mode p : ℕ) (a : Access) → maker e ≡ some v → rule s e .refusals ≡ byAccess s v mode p a → Kind s e
+
+kind : (s : State) (e : Event) → Kind s e
+unfolding rule maker
+kind s (Enpart v mode t mbec) = ordinary refl
+kind s (Envp v mode w t ip sp cr) = ordinary refl
+kind s (Call v mode len) = ordinary refl
+kind s (Ret v mode len) = ordinary refl
+kind s (Read v mode p) = access (v .0) mode (p .0) Access.Read refl refl
+kind s (Write v mode p x) = access (v .0) mode (p .0) Access.Write refl refl
+kind s (Fetch v mode p) = access (v .0) mode (p .0) Access.Fetch refl refl
+kind s (Protect v mode p k) = ordinary refl
+kind s (Config v mode g w) = ordinary refl
+kind s (Secure v mode l w) = ordinary refl
+kind s (Flush v mode) = ordinary refl
+kind s (Rreg v mode g r) = ordinary refl
+kind s (Wreg v mode g r x) = ordinary refl
+kind s (Tpr v mode class) = ordinary refl
+kind s (Ack v mode) = ordinary refl
+kind s (Int w g n) = ordinary refl
+kind s (Pstat v mode) = ordinary refl
+kind s (Vstat v mode) = ordinary refl
+kind s (Caps v mode) = ordinary refl
+
+-- An intercept: its maker's processor is there, and its receiver.
+pub record Taken (s : State) (e : Event) (l : ℕ) : Type 0 where
+  pub v : ℕ
+  pub made : maker e ≡ some v
+  pub inside : v < processors s
+  pub within : l < 4
+  pub enabled : enabledOn s v l ≡ true
+  pub above : active s v < l
+
+-- What the least denying level is.
+receiver-taken : (s : State) (e : Event) (v mode p : ℕ) (a : Access) → maker e ≡ some v → leb (processors s) v ≡ false → ltb (receiver s v mode p a) 4 ≡ true → Taken s e (receiver s v mode p a)
+unfolding receiver denies
+receiver-taken s e v mode p a m i h =
+    let t : ℕ = receiver s v mode p a in
+    let in-t : t < 4 = ltb-true t 4 h in
+    let f : (denies s v mode p a t && enabledOn s v t) ≡ true = least-found 4 (λ t. denies s v mode p a t && enabledOn s v t) in-t in
+    record {
+      v = v;
+      made = m;
+      inside = leb-false (processors s) v i;
+      within = in-t;
+      enabled = and-right (denies s v mode p a t) (enabledOn s v t) f;
+      above = ltb-true (active s v) t (and-left (ltb (active s v) t) _ (and-left _ _ (and-left (denies s v mode p a t) (enabledOn s v t) f)));
+    }
+
+-- What an event comes to: it is done and no condition applies, or refused, or intercepted.
+pub ruled-cases : (s : State) (e : Event) (P : Outcome → Type 0) → (Passed (rule s e .refusals) → P (answered (Done (rule s e .value)) s e)) → ((r : Refusal) → P (answered (Refused r) s e)) → ((l : ℕ) → Taken s e l → P (answered (Intercept (level l)) s e)) →
+    P (ruled s e)
+unfolding ruled
+ruled-cases s e P done refused taken = go (kind s e)
+  where
+    Q : Answer → Type 0
+    Q a = P (answered a s e)
+
+    go : Kind s e → Q (firstOf (rule s e .refusals) (Done (rule s e .value)))
+    go (ordinary p) = by-cases Q _ _ (plain-cases Q refused (rule s e .refusals) _ (and-left (plain (rule s e .refusals)) _ p) done)
+    go (access v mode p a m q) =
+        by-cases Q _ _ (rw q (access-cases Q refused s v mode p a _ (λ i h. taken _ (receiver-taken s e v mode p a m i h)) (λ ps. done (subst Passed (sym q) ps))))
+
+-- The same for one step.
+pub step-cases : (s : State) (e : Event) (P : Outcome → Type 0) → (wellFormed s ≡ true → Passed (rule s e .refusals) → P (answered (Done (rule s e .value)) s e)) → ((r : Refusal) → P (answered (Refused r) s e)) → (wellFormed s ≡ true → (l : ℕ) → Taken s e l → P (answered (Intercept (level l)) s e)) →
+    P (step s e)
+unfolding step
+step-cases s e P done refused taken = go (wellFormed s) refl
+  where
+    go : (b : Bool) → wellFormed s ≡ b → P (cond b (ruled s e) (answered (Refused Malformed) s e))
+    go true w = ruled-cases s e P (done w) refused (taken w)
+    go false w = refused Malformed
+
+-- Demand 1.
+pub unchanged : Unchanged
+unfolding nextFor
+unchanged s e = step-cases s e (λ o. (numberOf (o .answer) ≡ 0 → ⊥) → (numberOf (o .answer) ≡ 9 → ⊥) → (o .next ≡ s) × (valueOf (o .answer) ≡ 0))
+    (λ w ps done nine. absurd (done refl))
+    (λ r done nine. (refl, refl))
+    (λ w l t done nine. absurd (nine refl))
+
+not-nine : (r : Refusal) → eqb (refusalNumber r) 9 ≡ false
+not-nine Malformed = refl
+not-nine UndefinedOpcode = refl
+not-nine InvalidLevel = refl
+not-nine NotPermitted = refl
+not-nine AlreadyEnabled = refl
+not-nine NotEnabled = refl
+not-nine WriteOnce = refl
+not-nine KernelOnlyExecute = refl
+not-nine NoReceiver = refl
+not-nine HostDenies = refl
+not-nine TlbLocked = refl
+not-nine NoInterrupt = refl
+
+pub only-entered : OnlyEntered
+unfolding nextFor intercepted
+only-entered s e = step-cases s e (λ o. numberOf (o .answer) ≡ 9 → Entered s e o)
+    (λ w ps h. absurd (eqb-false 0 9 refl h))
+    (λ r h. absurd (eqb-false (refusalNumber r) 9 (not-nine r) h))
+    (λ w l t h. record { v = t .v; made = t .made; inside = t .inside; enabled = t .enabled; above = t .above; only = ap (λ m. intercepted s m l) (t .made) })
+
+-- The smallest number is given. One step's first condition is that the state is not well formed.
+step-is : (s : State) (e : Event) → step s e .answer ≡ firstOf (conditions s e) (Done (rule s e .value))
+unfolding step ruled firstOf
+step-is s e = go (wellFormed s)
+  where
+    go : (b : Bool) → cond b (ruled s e) (answered (Refused Malformed) s e) .answer ≡ cond (not b) (Refused Malformed) (firstOf (rule s e .refusals) (Done (rule s e .value)))
+    go true = refl
+    go false = refl
+
+pub rising : Rising
+rising s e = go (kind s e)
+  where
+    go : Kind s e → rises 1 (conditions s e) ≡ true
+    go (ordinary p) = and-right (plain (rule s e .refusals)) (rises 1 (rule s e .refusals)) p
+    go (access v mode p a m q) = rw q refl
+
+record First (n : ℕ) (cs : List (Answer × Bool)) (a : Answer) : Type 0 where
+  applying : (numberOf a ≡ 0 → ⊥) → applies (numberOf a) cs ≡ true
+  least : (m : ℕ) → applies m cs ≡ true → (n ≤ numberOf a) × (numberOf a ≤ m)
+
+first : (n : ℕ) (cs : List (Answer × Bool)) (x : ℕ) → rises n cs ≡ true → First n cs (firstOf cs (Done x))
+unfolding firstOf
+first n [] x r = record { applying = λ h. absurd (h refl); least = λ m h. absurd (false≢true h) }
+first n (c ∷ cs) x r = go (c .1) refl (first (numberOf (c .0)) cs x (and-right (leb n (numberOf (c .0))) _ r))
+  where
+    up : n ≤ numberOf (c .0)
+    up = leb-true n (numberOf (c .0)) (and-left (leb n (numberOf (c .0))) _ r)
+
+    go : (b : Bool) → c .1 ≡ b → First (numberOf (c .0)) cs (firstOf cs (Done x)) → First n (c ∷ cs) (cond b (c .0) (firstOf cs (Done x)))
+    go true e f = record {
+      applying = λ h. rw (eq-eqb (numberOf (c .0)) (numberOf (c .0)) refl, e);
+      least = λ m. or-elim (eqb (numberOf (c .0)) m && c .1) (applies m cs)
+          (λ h. (up, omega (arith, eqb-true (numberOf (c .0)) m (and-left _ (c .1) h))))
+          (λ h. let q = f .least m h in (up, omega arith));
+    }
+    go false e f = record {
+      applying = λ h. rw (e, and-false (eqb (numberOf (c .0)) (numberOf (firstOf cs (Done x))))) (f .applying h);
+      least = λ m h. let q = f .least m (rw (e, and-false (eqb (numberOf (c .0)) m)) at h) in (omega (arith, up), q .1);
+    }
+
+pub smallest : (s : State) (e : Event) → Smallest s e
+smallest s e =
+    let f = first 1 (conditions s e) (rule s e .value) (rising s e) in
+    record { applying = rw step-is (f .applying); least = rw step-is (f .least) }

@@ -1,0 +1,67 @@
+-- What is proved of the definitions, each once for all events and states (proofs/). Assumes nothing.
+use mathlib.Core.Path.{_≡_}
+use mathlib.Core.Bool.{Bool, true, false, not, _&&_, _||_}
+use mathlib.Core.List.{List, [], _∷_, map}
+use mathlib.Core.Option.{some}
+use Prim.Native.Nat.{ℕ, _≤_, _<_}
+use lib.Dec.{leb, eqb}
+use Rattle.model.specs.declared.answer.Answer.{Answer}
+use Rattle.model.specs.declared.answer.Refusal.the-variants.{Malformed}
+use Rattle.model.specs.declared.event.Event.{Event}
+use Rattle.model.specs.declared.machine.FirstLine.{FirstLine}
+use Rattle.model.specs.Answers.{numberOf, valueOf, _when_}
+use Rattle.model.specs.Cases.{cases, given, expected}
+use Rattle.model.specs.Entry.{enter, byInterrupt}
+use Rattle.model.specs.Events.{onVp}
+use Rattle.model.specs.Fresh.{admissible, fresh}
+use Rattle.model.specs.State.{State, processors, active, enabledOn}
+use Rattle.model.specs.Step.{Outcome, rule, maker, step}
+use Rattle.model.specs.WellFormed.{wellFormed}
+
+-- All conditions on which an event is refused or intercepted.
+abbrev pub conditions : State → Event → List (Answer × Bool)
+conditions s e = Malformed when not (wellFormed s) ∷ rule s e .refusals
+
+-- The numbers of a list of conditions rise from n on.
+abbrev pub rises : ℕ → List (Answer × Bool) → Bool
+rises n [] = true
+rises n (c ∷ cs) = leb n (numberOf (c .0)) && rises (numberOf (c .0)) cs
+
+-- A condition of number n applies.
+abbrev pub applies : ℕ → List (Answer × Bool) → Bool
+applies n [] = false
+applies n (c ∷ cs) = eqb (numberOf (c .0)) n && c .1 || applies n cs
+
+-- The refusals of every event rise.
+abbrev pub Rising : Type 0
+Rising = (s : State) (e : Event) → rises 1 (conditions s e) ≡ true
+
+-- Where several apply, the smallest number is given: a number above 0 applies, and is at most each that applies.
+pub record Smallest (s : State) (e : Event) : Type 0 where
+  pub applying : (numberOf (step s e .answer) ≡ 0 → ⊥) → applies (numberOf (step s e .answer)) (conditions s e) ≡ true
+  pub least : (n : ℕ) → applies n (conditions s e) ≡ true → (1 ≤ numberOf (step s e .answer)) × (numberOf (step s e .answer) ≤ n)
+
+-- Demand 1: at 1..8 and 10..13 state and lent words stay the same, and the value is 0.
+abbrev pub Unchanged : Type 0
+Unchanged = (s : State) (e : Event) → (numberOf (step s e .answer) ≡ 0 → ⊥) → (numberOf (step s e .answer) ≡ 9 → ⊥) → (step s e .next ≡ s) × (valueOf (step s e .answer) ≡ 0)
+
+-- Demand 1: at 9 the maker's processor enters the receiver, which is enabled there and above the actor, and nothing else
+-- changes. The value is the receiver.
+pub record Entered (s : State) (e : Event) (o : Outcome) : Type 0 where
+  pub v : ℕ
+  pub made : maker e ≡ some v
+  pub inside : v < processors s
+  pub enabled : enabledOn s v (valueOf (o .answer)) ≡ true
+  pub above : active s v < valueOf (o .answer)
+  pub only : o .next ≡ onVp s v (λ z p. enter z p (valueOf (o .answer)) byInterrupt)
+
+abbrev pub OnlyEntered : Type 0
+OnlyEntered = (s : State) (e : Event) → numberOf (step s e .answer) ≡ 9 → Entered s e (step s e)
+
+-- The fresh machine of every admissible first line is well formed.
+abbrev pub FreshWellFormed : Type 0
+FreshWellFormed = (f : FirstLine) → admissible f ≡ true → wellFormed (fresh f) ≡ true
+
+-- The eight proved cases.
+abbrev pub AllGiven : Type 0
+AllGiven = map given cases ≡ map expected cases

@@ -1,0 +1,98 @@
+-- What happens on one processor: entry of a level, call, return and interrupts (01, "Events"). Assumes nothing.
+use mathlib.Core.Bool.{Bool, true, not, cond, _&&_}
+use mathlib.Core.List.{_∷_}
+use Prim.Native.Nat.{ℕ, _+_, _/_, _%_, _^_}
+use lib.Dec.{ltb, eqb}
+use lib.ListN.{replicate}
+use Rattle.model.specs.declared.machine.Context.{Context}
+use Rattle.model.specs.declared.machine.Control.{Control}
+use Rattle.model.specs.declared.machine.Shape.{Shape}
+use Rattle.model.specs.declared.machine.VirtualProcessor.{VirtualProcessor}
+use Rattle.model.specs.Bounded.{least, highest}
+use Rattle.model.specs.Registers.{rip, rax, rcx, privateOf, sharedOf}
+use Rattle.model.specs.State.{context, activeOf, enabledAt, isPending, noControl}
+use Rattle.model.specs.Updates.{withControl, withActive, putContext, setShared, setPrivate, setPending, unlocked}
+
+-- Reasons: 1 call, 2 interrupt or intercept.
+abbrev pub byCall : ℕ
+byCall = 1
+
+abbrev pub byInterrupt : ℕ
+byInterrupt = 2
+
+-- Entry of a level records reason, the level left, and RAX and RCX as they then stand, and changes no other register.
+abbrev pub recordOf : VirtualProcessor → ℕ → Control
+recordOf p reason = record { reason = reason; from = p .active; rax = sharedOf p rax; rcx = sharedOf p rcx }
+
+unfoldable pub enter : Shape → VirtualProcessor → ℕ → ℕ → VirtualProcessor
+enter z p l reason = withActive (putContext p l (withControl (context z p l) (recordOf p reason))) l
+
+-- Ready: vector/16 (rounded down) exceeds the level's TPR class; RFLAGS.IF plays no part.
+unfoldable pub isReady : Context → ℕ → Bool
+isReady c n = ltb (c .tpr) (n / 16)
+
+-- The highest ready vector that is pending; 0 if none is. (Vector 0 is never ready.)
+unfoldable pub highestReady : Context → ℕ
+highestReady c = highest 256 (λ n. isPending c n && isReady c n)
+
+-- The next enabled level up; 4 if there is none.
+unfoldable pub nextUp : Shape → VirtualProcessor → ℕ
+nextUp z p = least 4 (λ l. ltb (activeOf p) l && enabledAt z p l)
+
+-- The active level's RIP grows by the length, modulo 2^64.
+unfoldable pub advanced : Shape → VirtualProcessor → ℕ → VirtualProcessor
+advanced z p length = setPrivate z p (activeOf p) rip ((privateOf z p (activeOf p) rip + length) % 2 ^ 64)
+
+-- call: the caller's RIP grows; then entry, reason 1, to the next enabled level up.
+unfoldable pub called : Shape → VirtualProcessor → ℕ → VirtualProcessor
+called z p length = enter z (advanced z p length) (nextUp z p) byCall
+
+-- With RCX 0, RAX and RCX are restored from the control record; RCX 1 is the fast return.
+unfoldable pub restored : Shape → VirtualProcessor → VirtualProcessor
+restored z p =
+    let k = context z p (activeOf p) .control in
+    cond (eqb (sharedOf p rcx) 0) (setShared (setShared p rax (k .rax)) rcx (k .rcx)) p
+
+-- The highest level above the active one that is enabled with a ready vector; 0 if there is none.
+unfoldable pub waiting : Shape → VirtualProcessor → ℕ
+waiting z p = highest 4 (λ l. ltb (activeOf p) l && enabledAt z p l && not (eqb (highestReady (context z p l)) 0))
+
+-- Of the higher levels enabled on v with a ready vector, the highest is entered, reason 2.
+unfoldable pub reentered : Shape → VirtualProcessor → VirtualProcessor
+reentered z p = cond (eqb (waiting z p) 0) p (enter z p (waiting z p) byInterrupt)
+
+-- ret: if the actor's reason is 1, its RIP grows. Its TLB locks are cleared. RAX and RCX are restored. The level it was
+-- entered from becomes active. Then a higher level with a ready vector is entered.
+unfoldable pub left : Shape → VirtualProcessor → VirtualProcessor
+left z p = withActive (restored z p) (context z p (activeOf p) .control .from .0)
+
+unfoldable pub returned : Shape → VirtualProcessor → ℕ → VirtualProcessor
+returned z p length =
+    let q = cond (eqb (context z p (activeOf p) .control .reason) byCall) (advanced z p length) p in
+    reentered z (left z (unlocked z q (activeOf p)))
+
+-- int: if g is above the active level and the vector is ready, g is entered.
+unfoldable pub enters : Shape → VirtualProcessor → ℕ → ℕ → Bool
+enters z p g n = ltb (activeOf p) g && isReady (context z p g) n
+
+-- int: the vector is made pending; g is entered, reason 2, or not.
+unfoldable pub interrupted : Shape → VirtualProcessor → ℕ → ℕ → VirtualProcessor
+interrupted z p g n =
+    let q = setPending z p g n 1 in
+    cond (enters z p g n) (enter z q g byInterrupt) q
+
+-- envp: sets RIP, RSP and CR0, the other private registers 0, TPR 0, nothing pending, reason 0, entered from 0, its record's
+-- RAX and RCX 0. What the level holds of lower levels stays.
+unfoldable pub started : Shape → VirtualProcessor → ℕ → ℕ → ℕ → ℕ → VirtualProcessor
+started z p t ip sp cr = putContext p t (record {
+  registers = ip ∷ sp ∷ 0 ∷ cr ∷ replicate 9 0;
+  tpr = 0;
+  pending = replicate 4 0;
+  enabled = true;
+  secure = context z p t .secure;
+  control = noControl;
+})
+
+-- ack: takes the highest ready vector of the actor.
+unfoldable pub acknowledged : Shape → VirtualProcessor → VirtualProcessor
+acknowledged z p = let l = activeOf p in setPending z p l (highestReady (context z p l)) 0

@@ -1,0 +1,113 @@
+-- The updates of a state that the events are made of, in three layers: a context, a processor, the state. Each keeps
+-- whatever it does not name. Assumes nothing.
+use mathlib.Core.Bool.{Bool, true, cond}
+use mathlib.Core.List.{List}
+use Prim.Native.Nat.{ℕ, zero, suc, _+_, _-_, _*_, _/_, _%_}
+use lib.Dec.{ltb}
+use lib.ListN.{set}
+use Rattle.word.specs.Field.{put}
+use Rattle.model.specs.declared.machine.Context.{Context}
+use Rattle.model.specs.declared.machine.Control.{Control}
+use Rattle.model.specs.declared.machine.Machine.{Machine}
+use Rattle.model.specs.declared.machine.PartitionLevel.{PartitionLevel}
+use Rattle.model.specs.declared.machine.Shape.{Shape}
+use Rattle.model.specs.declared.machine.VirtualProcessor.{VirtualProcessor}
+use Rattle.model.specs.Arrays.{numberAt, stored}
+use Rattle.model.specs.Registers.{dr6, isPrivate}
+use Rattle.model.specs.State.{State, level, pages, context, lockBit}
+
+-- A context with one field changed.
+abbrev pub withRegisters : Context → List ℕ → Context
+withRegisters c rs = record { registers = rs; tpr = c .tpr; pending = c .pending; enabled = c .enabled; secure = c .secure; control = c .control }
+
+abbrev pub withTpr : Context → ℕ → Context
+withTpr c class = record { registers = c .registers; tpr = class; pending = c .pending; enabled = c .enabled; secure = c .secure; control = c .control }
+
+abbrev pub withPending : Context → List ℕ → Context
+withPending c ps = record { registers = c .registers; tpr = c .tpr; pending = ps; enabled = c .enabled; secure = c .secure; control = c .control }
+
+abbrev pub withSecure : Context → List ℕ → Context
+withSecure c ws = record { registers = c .registers; tpr = c .tpr; pending = c .pending; enabled = c .enabled; secure = ws; control = c .control }
+
+abbrev pub withControl : Context → Control → Context
+withControl c k = record { registers = c .registers; tpr = c .tpr; pending = c .pending; enabled = c .enabled; secure = c .secure; control = k }
+
+-- The same for a processor and for the partition's part in a level.
+abbrev pub withActive : VirtualProcessor → ℕ → VirtualProcessor
+withActive p l = record { active = level l; shared = p .shared; contexts = p .contexts }
+
+abbrev pub withShared : VirtualProcessor → List ℕ → VirtualProcessor
+withShared p rs = record { active = p .active; shared = rs; contexts = p .contexts }
+
+abbrev pub withContexts : VirtualProcessor → List Context → VirtualProcessor
+withContexts p cs = record { active = p .active; shared = p .shared; contexts = cs }
+
+abbrev pub withEnabled : PartitionLevel → Bool → PartitionLevel
+withEnabled x mbec = record { enabled = true; mbec = mbec; config = x .config }
+
+abbrev pub withConfig : PartitionLevel → ℕ → PartitionLevel
+withConfig x w = record { enabled = x .enabled; mbec = x .mbec; config = w }
+
+-- One processor.
+unfoldable pub putContext : VirtualProcessor → ℕ → Context → VirtualProcessor
+putContext p l c = withContexts p (stored 4 (p .contexts) l c)
+
+unfoldable pub setShared : VirtualProcessor → ℕ → ℕ → VirtualProcessor
+setShared p r x = withShared p (stored 20 (p .shared) (r - dr6) x)
+
+unfoldable pub setPrivate : Shape → VirtualProcessor → ℕ → ℕ → ℕ → VirtualProcessor
+setPrivate z p l r x = let c = context z p l in putContext p l (withRegisters c (stored 13 (c .registers) r x))
+
+unfoldable pub setRegister : Shape → VirtualProcessor → ℕ → ℕ → ℕ → VirtualProcessor
+setRegister z p l r x = cond (isPrivate z r) (setPrivate z p l r x) (setShared p r x)
+
+unfoldable pub setTpr : Shape → VirtualProcessor → ℕ → ℕ → VirtualProcessor
+setTpr z p l class = putContext p l (withTpr (context z p l) class)
+
+-- Vector n of level l is pending where x is 1, and is not where x is 0.
+unfoldable pub setPending : Shape → VirtualProcessor → ℕ → ℕ → ℕ → VirtualProcessor
+setPending z p l n x =
+    let c = context z p l in
+    putContext p l (withPending c (stored 4 (c .pending) (n / 64) (put (n % 64) 1 (numberAt 4 (c .pending) (n / 64)) x)))
+
+-- Level t's secure configuration of the lower level l.
+unfoldable pub setSecure : Shape → VirtualProcessor → ℕ → ℕ → ℕ → VirtualProcessor
+setSecure z p t l w = let c = context z p t in putContext p t (withSecure c (stored 4 (c .secure) l w))
+
+-- Level t's TLB locks are cleared, in the first n of its words and in all.
+unfoldable pub cleared : ℕ → List ℕ → List ℕ
+cleared zero ws = ws
+cleared (suc l) ws = let us = cleared l ws in stored 4 us l (put lockBit 1 (numberAt 4 us l) 0)
+
+unfoldable pub unlocked : Shape → VirtualProcessor → ℕ → VirtualProcessor
+unlocked z p t = let c = context z p t in putContext p t (withSecure c (cleared 4 (c .secure)))
+
+-- The state.
+abbrev pub withVps : Machine → List VirtualProcessor → Machine
+withVps m ps = record { processors = m .processors; pages = m .pages; «host_mask» = m .«host_mask»; shape = m .shape; levels = m .levels; masks = m .masks; vps = ps }
+
+abbrev pub withLevels : Machine → List PartitionLevel → Machine
+withLevels m xs = record { processors = m .processors; pages = m .pages; «host_mask» = m .«host_mask»; shape = m .shape; levels = xs; masks = m .masks; vps = m .vps }
+
+abbrev pub withMasks : Machine → List ℕ → Machine
+withMasks m ks = record { processors = m .processors; pages = m .pages; «host_mask» = m .«host_mask»; shape = m .shape; levels = m .levels; masks = ks; vps = m .vps }
+
+unfoldable pub putVp : State → ℕ → VirtualProcessor → State
+putVp s v p = record { machine = withVps (s .machine) (stored 4 (s .machine .vps) v p); words = s .words }
+
+unfoldable pub putLevel : State → ℕ → PartitionLevel → State
+putLevel s l x = record { machine = withLevels (s .machine) (stored 4 (s .machine .levels) l x); words = s .words }
+
+unfoldable pub setMask : State → ℕ → ℕ → ℕ → State
+setMask s l p k = record { machine = withMasks (s .machine) (stored 256 (s .machine .masks) (4 * p + l) k); words = s .words }
+
+-- Level l's mask of each page below P, among the first n and among all.
+unfoldable pub filled : ℕ → ℕ → ℕ → ℕ → List ℕ → List ℕ
+filled zero P l k ks = ks
+filled (suc p) P l k ks = let ns = filled p P l k ks in cond (ltb p P) (stored 256 ns (4 * p + l) k) ns
+
+unfoldable pub fillMasks : State → ℕ → ℕ → State
+fillMasks s l k = record { machine = withMasks (s .machine) (filled 64 (pages s) l k (s .machine .masks)); words = s .words }
+
+unfoldable pub setWord : State → ℕ → ℕ → State
+setWord s p x = record { machine = s .machine; words = set (s .words) p x }

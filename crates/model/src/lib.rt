@@ -1,0 +1,6 @@
+// The bench model's types: what a machine is made of, what can happen to it, and what is answered.
+// Every rule about them is a definition in specs/; the code that obeys it stands in the crates above this one.
+pub mod answer; // what an event is answered
+pub mod event; // the nineteen events
+pub mod machine; // the state
+pub mod quantity; // level, processor index and page number

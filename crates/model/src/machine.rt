@@ -1,0 +1,64 @@
+// The state of a partition with its virtual processors and trust levels, held by value. The words of its pages are lent.
+// What lies beyond the number of processors, the maximum level or the number of pages is no part of a state.
+use crate::quantity::Level;
+
+// The first line of a script: what a fresh machine is made from.
+pub struct FirstLine {
+    pub processors: u64,
+    pub max_level: u64,
+    pub pages: u64,
+    pub dr6_shared: u64,
+    pub host_mask: u64,
+}
+
+// What a processor's record is read by: the maximum level, and whether DR6 is shared by the levels.
+pub struct Shape {
+    pub max_level: Level,
+    pub dr6_shared: bool,
+}
+
+// The control record of a level above 0: why it was entered, from which level, and RAX and RCX at that time.
+pub struct Control {
+    pub reason: u64,
+    pub from: Level,
+    pub rax: u64,
+    pub rcx: u64,
+}
+
+// What a processor holds of one level.
+pub struct Context {
+    // Registers 0 to 12. The last, DR6, is in use only where it is not shared.
+    pub registers: [u64; 13],
+    pub tpr: u64,
+    // Vector 64 i + j is pending where bit j of word i is set.
+    pub pending: [u64; 4],
+    pub enabled: bool,
+    // This level's configuration of each lower level: bit 0 MBEC, bit 1 TLB lock.
+    pub secure: [u64; 4],
+    pub control: Control,
+}
+
+pub struct VirtualProcessor {
+    pub active: Level,
+    // Registers 12 to 31. The first, DR6, is in use only where it is shared.
+    pub shared: [u64; 20],
+    pub contexts: [Context; 4],
+}
+
+// What the partition holds of one level.
+pub struct PartitionLevel {
+    pub enabled: bool,
+    pub mbec: bool,
+    pub config: u64,
+}
+
+pub struct Machine {
+    pub processors: u64,
+    pub pages: u64,
+    pub host_mask: u64,
+    pub shape: Shape,
+    pub levels: [PartitionLevel; 4],
+    // The protection mask of level l for page p stands at 4 p + l.
+    pub masks: [u64; 256],
+    pub vps: [VirtualProcessor; 4],
+}

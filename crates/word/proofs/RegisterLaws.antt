@@ -1,0 +1,76 @@
+-- The laws of the six registers of document 001: each is a whole word, and its two round trips hold. Each is a use of the laws
+-- of layouts; `packAs` and `unpackAs` at a register are its named pair, as `packVpStatus` and `unpackVpStatus`. Assumes nothing.
+use Prim.Native.Nat.{ℕ, _^_, _<_}
+use mathlib.Core.Path.{_≡_, refl, ap, _∙_}
+use mathlib.Core.Bool.{true}
+use mathlib.Core.Logic.{_↔_}
+use Rattle.word.specs.Layout.{widthOf, lowBits, unpack, reservedClear}
+use Rattle.word.specs.Registers.{Register, packAs, unpackAs}
+use Rattle.word.specs.Registers.{capabilities, partitionStatus, vpStatus, partitionConfig, secureConfig, codePageOffsets}
+use Rattle.word.specs.Registers.{packPartitionStatus, unpackCapabilities, unpackPartitionConfig}
+use Rattle.word.proofs.LayoutLaws.{unpack-pack, pack-unpack, pack-lt, pack-clear}
+
+-- What holds of a register.
+pub record Whole {S : Type 0} (r : Register S) : Type 0 where
+  -- Its layout is 64 bits wide.
+  pub wide : widthOf (r .layout) ≡ 64
+  -- A packed structure is a word of 64 bits whose reserved fields are 0.
+  pub packed-lt : (s : S) → packAs r s < 2 ^ 64
+  pub packed-clear : (s : S) → reservedClear (r .layout) (packAs r s) ≡ true
+  -- A structure comes back with each value modulo 2 ^ width, and so as it was where each value fits its field.
+  pub unpack-packed : (s : S) → unpackAs r (packAs r s) ≡ r .structure (lowBits (r .layout) (r .values s))
+  pub unpack-fitting : (s : S) → lowBits (r .layout) (r .values s) ≡ r .values s → unpackAs r (packAs r s) ≡ s
+  -- A word comes back exactly when its reserved fields are 0.
+  pub pack-unpacked : (w : ℕ) → w < 2 ^ 64 → (packAs r (unpackAs r w) ≡ w) ↔ (reservedClear (r .layout) w ≡ true)
+
+-- All of it follows from the width, and from the structure and its list of values being each other's inverse.
+pub whole : {S : Type 0} (r : Register S) → widthOf (r .layout) ≡ 64
+    → ((w : ℕ) → r .values (unpackAs r w) ≡ unpack (r .layout) w) → ((s : S) → r .structure (r .values s) ≡ s) → Whole r
+whole r wide values structure =
+    record {
+      wide = wide;
+      packed-lt = λ s. rw wide at (pack-lt (r .layout) (r .values s));
+      packed-clear = λ s. pack-clear (r .layout) (r .values s);
+      unpack-packed = λ s. ap (r .structure) (unpack-pack (r .layout) (r .values s));
+      unpack-fitting = λ s fits. ap (r .structure) (unpack-pack (r .layout) (r .values s) ∙ fits) ∙ structure s;
+      pack-unpacked = λ w h. rw values (pack-unpack (r .layout) w (rw wide h));
+    }
+
+pub capabilities-whole : Whole capabilities
+capabilities-whole = whole capabilities refl (λ w. refl) (λ s. refl)
+
+pub partition-status-whole : Whole partitionStatus
+partition-status-whole = whole partitionStatus refl (λ w. refl) (λ s. refl)
+
+pub vp-status-whole : Whole vpStatus
+vp-status-whole = whole vpStatus refl (λ w. refl) (λ s. refl)
+
+pub partition-config-whole : Whole partitionConfig
+partition-config-whole = whole partitionConfig refl (λ w. refl) (λ s. refl)
+
+pub secure-config-whole : Whole secureConfig
+secure-config-whole = whole secureConfig refl (λ w. refl) (λ s. refl)
+
+pub code-page-offsets-whole : Whole codePageOffsets
+code-page-offsets-whole = whole codePageOffsets refl (λ w. refl) (λ s. refl)
+
+-- Levels 0 and 1 enabled of at most 1, and MBEC at level 1, as a word.
+pub partition-status-word :
+    packPartitionStatus (record { «enabled_vtl_set» = 3; «maximum_vtl» = 1; «mbec_enabled_vtl_set» = 2 }) ≡ 2162691
+partition-status-word = refl
+
+-- The highest bit alone is Dr6Shared.
+pub capabilities-word :
+    unpackCapabilities (2 ^ 63) ≡ record { «deny_lower_vtl_startup» = 0; «mbec_vtl_mask» = 0; «dr6_shared» = 1 }
+capabilities-word = refl
+
+-- Bits 0 to 4, 6 and 9 are all fields but ZeroMemoryOnReset; bits 7 and 8 are passed over.
+pub partition-config-word :
+    unpackPartitionConfig 991 ≡ record {
+      «enable_vtl_protection» = 1;
+      «default_vtl_protection_mask» = 15;
+      «zero_memory_on_reset» = 0;
+      «deny_lower_vtl_startup» = 1;
+      «intercept_vp_startup» = 1;
+    }
+partition-config-word = refl
