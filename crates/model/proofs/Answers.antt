@@ -1,11 +1,10 @@
 -- What the list of an event's conditions gives: the refusals rise, the smallest number is given, a refusal changes nothing and
 -- an intercept is entry alone. Assumes nothing.
-use mathlib.Core.Path.{_≡_, refl, sym, ap, _∙_, subst}
-use mathlib.Core.Bool.{Bool, true, false, not, cond, _&&_, _||_, false≢true, and-false}
+use mathlib.Core.Path.{_≡_, refl, sym, ap, subst}
+use mathlib.Core.Bool.{Bool, true, false, not, cond, _&&_, false≢true, and-false}
 use mathlib.Core.List.{List, [], _∷_}
-use mathlib.Core.Logic.{⊎-elim}
-use mathlib.Core.Option.{Option, none, some}
-use Prim.Native.Nat.{ℕ, zero, suc, _≤_, _<_}
+use mathlib.Core.Option.{some}
+use Prim.Native.Nat.{ℕ, _≤_, _<_}
 use native.Mathlib.Omega.{arith}
 use lib.Dec.{leb, ltb, eqb}
 use borrow.Author.Tests.{leb-true, leb-false, ltb-true, eqb-true, eqb-false, eq-eqb}
@@ -42,34 +41,38 @@ abbrev plain : List (Answer × Bool) → Bool
 plain [] = true
 plain (c ∷ cs) = isRefusal (c .0) && plain cs
 
--- A proof for each answer that the list can give, with what is known there: the condition holds and those before it fail.
-abbrev Cases : (Answer → Type 0) → List (Answer × Bool) → Answer → Type 0
-Cases P [] a = P a
-Cases P (c ∷ cs) a = (c .1 ≡ true → P (c .0)) × (c .1 ≡ false → Cases P cs a)
+-- A proof for each answer that the list can give, with what is known there: the condition holds and those before it fail. What
+-- the list gives is a function of the answer where no condition applies: that answer itself, or always one and the same.
+abbrev Given : Type 1
+Given = (Answer → Answer) → Type 0
 
-by-cases : (P : Answer → Type 0) (cs : List (Answer × Bool)) (a : Answer) → Cases P cs a → P (firstOf cs a)
+abbrev Cases : Given → List (Answer × Bool) → Type 0
+Cases P [] = P (λ a. a)
+Cases P (c ∷ cs) = (c .1 ≡ true → P (λ a. c .0)) × (c .1 ≡ false → Cases P cs)
+
+by-cases : (P : Given) (cs : List (Answer × Bool)) → Cases P cs → P (firstOf cs)
 unfolding firstOf
-by-cases P [] a k = k
-by-cases P (c ∷ cs) a k = go (c .1) refl (λ e. by-cases P cs a (k .1 e))
+by-cases P [] k = k
+by-cases P (c ∷ cs) k = go (c .1) refl (λ e. by-cases P cs (k .1 e))
   where
-    go : (b : Bool) → c .1 ≡ b → (c .1 ≡ false → P (firstOf cs a)) → P (cond b (c .0) (firstOf cs a))
+    go : (b : Bool) → c .1 ≡ b → (c .1 ≡ false → P (firstOf cs)) → P (λ a. cond b (c .0) (firstOf cs a))
     go true e r = k .0 e
     go false e r = r e
 
-module _ (P : Answer → Type 0) (refused : (r : Refusal) → P (Refused r)) where
-  a-refusal : (a : Answer) → isRefusal a ≡ true → P a
+module _ (P : Given) (refused : (r : Refusal) → P (λ a. Refused r)) where
+  a-refusal : (b : Answer) → isRefusal b ≡ true → P (λ a. b)
   a-refusal (Done x) e = absurd (false≢true e)
   a-refusal (Refused r) e = refused r
   a-refusal (Intercept l) e = absurd (false≢true e)
 
-  plain-cases : (cs : List (Answer × Bool)) (a : Answer) → plain cs ≡ true → (Passed cs → P a) → Cases P cs a
-  plain-cases [] a p f = f tt
-  plain-cases (c ∷ cs) a p f =
-      (λ e. a-refusal (c .0) (and-left (isRefusal (c .0)) (plain cs) p), λ e. plain-cases cs a (and-right (isRefusal (c .0)) (plain cs) p) (λ q. f (e, q)))
+  plain-cases : (cs : List (Answer × Bool)) → plain cs ≡ true → (Passed cs → P (λ a. a)) → Cases P cs
+  plain-cases [] p f = f tt
+  plain-cases (c ∷ cs) p f =
+      (λ e. a-refusal (c .0) (and-left (isRefusal (c .0)) (plain cs) p), λ e. plain-cases cs (and-right (isRefusal (c .0)) (plain cs) p) (λ q. f (e, q)))
 
-  access-cases : (s : State) (v mode p : ℕ) (access : Access) (a : Answer) → (leb (processors s) v ≡ false → ltb (receiver s v mode p access) 4 ≡ true → P (Intercept (level (receiver s v mode p access)))) →
-      (Passed (byAccess s v mode p access) → P a) → Cases P (byAccess s v mode p access) a
-  access-cases s v mode p access a taken f = (
+  access-cases : (s : State) (v mode p : ℕ) (access : Access) → (leb (processors s) v ≡ false → ltb (receiver s v mode p access) 4 ≡ true → P (λ a. Intercept (level (receiver s v mode p access)))) →
+      (Passed (byAccess s v mode p access) → P (λ a. a)) → Cases P (byAccess s v mode p access)
+  access-cases s v mode p access taken f = (
     λ _. refused Malformed,
     λ inside. (
       λ _. refused Malformed,
@@ -142,28 +145,24 @@ receiver-taken s e v mode p a m i h =
       above = ltb-true (active s v) t (and-left (ltb (active s v) t) _ (and-left _ _ (and-left (denies s v mode p a t) (enabledOn s v t) f)));
     }
 
--- What an event comes to: it is done and no condition applies, or refused, or intercepted.
-pub ruled-cases : (s : State) (e : Event) (P : Outcome → Type 0) → (Passed (rule s e .refusals) → P (answered (Done (rule s e .value)) s e)) → ((r : Refusal) → P (answered (Refused r) s e)) → ((l : ℕ) → Taken s e l → P (answered (Intercept (level l)) s e)) →
-    P (ruled s e)
-unfolding ruled
-ruled-cases s e P done refused taken = go (kind s e)
+-- What the conditions of an event give: it is done and none applies, or it is refused, or intercepted.
+pub condition-cases : (s : State) (e : Event) (P : (Answer → Answer) → Type 0) → (Passed (rule s e .refusals) → P (λ a. a)) → ((r : Refusal) → P (λ a. Refused r)) → ((l : ℕ) → Taken s e l → P (λ a. Intercept (level l))) →
+    P (firstOf (rule s e .refusals))
+condition-cases s e P done refused taken = go (kind s e)
   where
-    Q : Answer → Type 0
-    Q a = P (answered a s e)
-
-    go : Kind s e → Q (firstOf (rule s e .refusals) (Done (rule s e .value)))
-    go (ordinary p) = by-cases Q _ _ (plain-cases Q refused (rule s e .refusals) _ (and-left (plain (rule s e .refusals)) _ p) done)
+    go : Kind s e → P (firstOf (rule s e .refusals))
+    go (ordinary p) = by-cases P _ (plain-cases P refused (rule s e .refusals) (and-left (plain (rule s e .refusals)) _ p) done)
     go (access v mode p a m q) =
-        by-cases Q _ _ (rw q (access-cases Q refused s v mode p a _ (λ i h. taken _ (receiver-taken s e v mode p a m i h)) (λ ps. done (subst Passed (sym q) ps))))
+        by-cases P _ (rw q (access-cases P refused s v mode p a (λ i h. taken _ (receiver-taken s e v mode p a m i h)) (λ ps. done (subst Passed (sym q) ps))))
 
 -- The same for one step.
 pub step-cases : (s : State) (e : Event) (P : Outcome → Type 0) → (wellFormed s ≡ true → Passed (rule s e .refusals) → P (answered (Done (rule s e .value)) s e)) → ((r : Refusal) → P (answered (Refused r) s e)) → (wellFormed s ≡ true → (l : ℕ) → Taken s e l → P (answered (Intercept (level l)) s e)) →
     P (step s e)
-unfolding step
+unfolding step ruled
 step-cases s e P done refused taken = go (wellFormed s) refl
   where
     go : (b : Bool) → wellFormed s ≡ b → P (cond b (ruled s e) (answered (Refused Malformed) s e))
-    go true w = ruled-cases s e P (done w) refused (taken w)
+    go true w = condition-cases s e (λ g. P (answered (g (Done (rule s e .value))) s e)) (done w) refused (taken w)
     go false w = refused Malformed
 
 -- Demand 1.

@@ -32,3 +32,17 @@ number-cases P n xs i j a h k = go (ltb j n) h
     go : (b : Bool) → P (cond b (getD xs j 0) 0) → P (cond b (getD (stored n xs i a) j 0) 0)
     go true q = stored-cases P n xs i j a 0 q k
     go false q = q
+
+-- What is read at the place of a store is what was stored, or 0.
+pub number-new : (P : ℕ → Type 0) (n : ℕ) (xs : List ℕ) (i a : ℕ) → P a → P 0 → P (numberAt n (stored n xs i a) i)
+unfolding numberAt stored
+number-new P n xs i a h z = go (ltb i n)
+  where
+    set-new : (xs : List ℕ) (i : ℕ) → P (getD (set xs i a) i 0)
+    set-new [] i = z
+    set-new (x ∷ xs) zero = h
+    set-new (x ∷ xs) (suc i) = set-new xs i
+
+    go : (b : Bool) → P (cond b (getD (cond b (set xs i a) xs) i 0) 0)
+    go true = set-new xs i
+    go false = z

@@ -1,5 +1,5 @@
 -- Laws of tests: conjunction, disjunction, implication, and a choice by a test. Assumes nothing.
-use mathlib.Core.Path.{_≡_, refl, sym, ap, _∙_}
+use mathlib.Core.Path.{_≡_, refl, sym, _∙_}
 use mathlib.Core.Bool.{Bool, true, false, not, cond, _&&_, _||_, false≢true, true≢false}
 use mathlib.Core.List.{List, [], _∷_}
 use Rattle.model.specs.Bounded.{allOf}

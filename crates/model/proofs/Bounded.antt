@@ -1,12 +1,12 @@
 -- Laws of the tests and searches below a bound. Assumes nothing.
-use mathlib.Core.Path.{_≡_, refl, ap, _∙_}
-use mathlib.Core.Bool.{Bool, true, false, cond, _&&_, _||_}
-use Prim.Native.Nat.{ℕ, zero, suc, _+_, _≤_, _<_}
+use mathlib.Core.Path.{_≡_, refl}
+use mathlib.Core.Bool.{Bool, true, false, cond}
+use Prim.Native.Nat.{ℕ, zero, suc, _≤_, _<_}
 use native.Mathlib.Omega.{arith}
 use lib.Dec.{eqb}
 use borrow.Author.Tests.{eqb-true, eqb-false}
 use Rattle.model.specs.Bounded.{every, any, least, highest}
-use Rattle.model.proofs.Bools.{and-left, and-right, or-left, or-right}
+use Rattle.model.proofs.Bools.{and-left, and-right, or-left, or-right, cond-holds}
 
 -- What holds of each number below n and of n holds of each below suc n.
 below-suc : (P : ℕ → Type 0) (n i : ℕ) → (i < n → P i) → P n → i < suc n → P i
@@ -27,6 +27,11 @@ unfolding every
 every-all zero f h = refl
 every-all (suc n) f h = rw (every-all n f (λ i l. h i (omega arith)), h n (omega arith))
 
+pub every-cong : (n : ℕ) (f g : ℕ → Bool) → ((i : ℕ) → i < n → f i ≡ g i) → every n f ≡ every n g
+unfolding every
+every-cong zero f g h = refl
+every-cong (suc n) f g h = rw (every-cong n f g (λ i l. h i (omega arith)), h n (omega arith))
+
 -- `any` that fails: at each number, and back.
 pub any-at : (n : ℕ) (f : ℕ → Bool) → any n f ≡ false → (i : ℕ) → i < n → f i ≡ false
 unfolding any
@@ -43,7 +48,12 @@ unfolding any
 any-cong zero f g h = refl
 any-cong (suc n) f g h = rw (any-cong n f g (λ i l. h i (omega arith)), h n (omega arith))
 
--- What `least` finds passes.
+-- What `least` finds passes; if it finds nothing, it is the bound.
+pub least-le : (n : ℕ) (f : ℕ → Bool) → least n f ≤ n
+unfolding least
+least-le zero f = omega arith
+least-le (suc n) f = cond-holds (λ k. k ≤ suc n) (f 0) 0 (suc (least n (λ i. f (suc i)))) (omega arith) (omega (arith, least-le n (λ i. f (suc i))))
+
 pub least-found : (n : ℕ) (f : ℕ → Bool) → least n f < n → f (least n f) ≡ true
 unfolding least
 least-found zero f h = absurd (omega arith)

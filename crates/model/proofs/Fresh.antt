@@ -1,21 +1,19 @@
 -- The fresh machine of an admissible first line is well formed. Assumes nothing.
 use mathlib.Core.Path.{_≡_, refl, sym, ap, _∙_}
-use mathlib.Core.Bool.{Bool, true, false, not, cond, _&&_, _||_, false≢true}
-use mathlib.Core.List.{List, [], _∷_}
+use mathlib.Core.Bool.{Bool, true, false, cond, _&&_, false≢true}
+use mathlib.Core.List.{_∷_}
 use Prim.Native.Nat.{ℕ, zero, suc, _+_, _*_, _≤_, _<_}
 use native.Mathlib.Omega.{arith}
 use lib.Dec.{leb, ltb, eqb, leb·zero}
 use lib.ListN.{length, getD, replicate, length-replicate, getD-replicate}
 use borrow.Author.Tests.{ltb-true, eq-eqb, ne-eqb}
-use Rattle.word.specs.Field.{bit}
 use Rattle.model.specs.declared.machine.FirstLine.{FirstLine}
 use Rattle.model.specs.Arrays.{numberAt}
 use Rattle.model.specs.Bounded.{every, allOf}
 use Rattle.model.specs.Claims.{FreshWellFormed}
 use Rattle.model.specs.Fresh.{admissible, freshContext, freshVp, freshLevel, fresh}
-use Rattle.model.specs.Masks.{protects, validMask}
-use Rattle.model.specs.Registers.{privateOf}
-use Rattle.model.specs.State.{isLevel, isProcessor, isPage, noContext, noVp, noLevel, processors, shape, top, maxLevel, pages, vp, context, partitionLevel, activeOf, active, enabledAt, enabledOn, enabledFor, mbecFor, configOf, maskOf, secureOf}
+use Rattle.model.specs.Masks.{validMask}
+use Rattle.model.specs.State.{isLevel, isProcessor, isPage, noContext, noVp, noLevel, processors, shape, top, maxLevel, pages, vp, context, partitionLevel, activeOf, enabledAt, enabledOn, enabledFor, mbecFor, maskOf}
 use Rattle.model.specs.WellFormed.{wellSized, wellFormedContext, wellFormedVp, wellFormedLevel, wellFormedParts, wellModed, wellFormed}
 use Rattle.model.proofs.Bools.{and-left, and-right, both, implies-test, hold, all-hold, cond-same, cond-holds}
 use Rattle.model.proofs.Bounded.{every-all}

@@ -5,3 +5,12 @@ pub mod Arrays  -- arrays
 pub mod Answers  -- the answer that an event's conditions give, and demand 1
 pub mod Fresh  -- the fresh machine is well formed
 pub mod Cases  -- the eight proved cases
+pub mod Maps  -- the map that sees the place
+pub mod Found  -- what the searches on one processor find
+pub mod Visible  -- hiding and one processor
+pub mod Whole  -- hiding and the whole state
+pub mod Formed  -- what a well-formed state has
+pub mod Steps  -- a step commutes with hiding
+pub mod Moves  -- what a step leaves as it was
+pub mod Sound  -- a well-formed processor stays so
+pub mod Keeps  -- a step keeps a state well formed

@@ -62,6 +62,10 @@ OnlyEntered = (s : State) (e : Event) → numberOf (step s e .answer) ≡ 9 → 
 abbrev pub FreshWellFormed : Type 0
 FreshWellFormed = (f : FirstLine) → admissible f ≡ true → wellFormed (fresh f) ≡ true
 
+-- A step from a well-formed state leads to one.
+abbrev pub StepKeeps : Type 0
+StepKeeps = (s : State) (e : Event) → wellFormed s ≡ true → wellFormed (step s e .next) ≡ true
+
 -- The eight proved cases.
 abbrev pub AllGiven : Type 0
 AllGiven = map given cases ≡ map expected cases

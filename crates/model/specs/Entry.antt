@@ -83,15 +83,18 @@ interrupted z p g n =
 
 -- envp: sets RIP, RSP and CR0, the other private registers 0, TPR 0, nothing pending, reason 0, entered from 0, its record's
 -- RAX and RCX 0. What the level holds of lower levels stays.
-unfoldable pub started : Shape → VirtualProcessor → ℕ → ℕ → ℕ → ℕ → VirtualProcessor
-started z p t ip sp cr = putContext p t (record {
+abbrev pub startedContext : Context → ℕ → ℕ → ℕ → Context
+startedContext c ip sp cr = record {
   registers = ip ∷ sp ∷ 0 ∷ cr ∷ replicate 9 0;
   tpr = 0;
   pending = replicate 4 0;
   enabled = true;
-  secure = context z p t .secure;
+  secure = c .secure;
   control = noControl;
-})
+}
+
+unfoldable pub started : Shape → VirtualProcessor → ℕ → ℕ → ℕ → ℕ → VirtualProcessor
+started z p t ip sp cr = putContext p t (startedContext (context z p t) ip sp cr)
 
 -- ack: takes the highest ready vector of the actor.
 unfoldable pub acknowledged : Shape → VirtualProcessor → VirtualProcessor

@@ -1,7 +1,6 @@
 -- The fresh machine of a first line (01, "The bench model"). Assumes nothing.
-use mathlib.Core.Bool.{Bool, true, false, _&&_}
+use mathlib.Core.Bool.{Bool, true, false}
 use mathlib.Core.List.{[], _∷_}
-use Prim.Native.Nat.{ℕ}
 use lib.Dec.{leb, eqb}
 use lib.ListN.{replicate}
 use Rattle.model.specs.declared.machine.Context.{Context}

@@ -11,5 +11,7 @@ pub mod Entry  -- entry, call, return and interrupts on one processor
 pub mod Memory  -- the access decision
 pub mod Events  -- the rule of each event
 pub mod Step  -- one step, and a run
+pub mod MapAt  -- a map that sees the place
+pub mod Hide  -- what is hidden from the levels below K
 pub mod Cases  -- the eight proved cases
 pub mod Claims  -- what is proved of the definitions

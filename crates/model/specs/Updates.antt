@@ -98,8 +98,11 @@ putVp s v p = record { machine = withVps (s .machine) (stored 4 (s .machine .vps
 unfoldable pub putLevel : State → ℕ → PartitionLevel → State
 putLevel s l x = record { machine = withLevels (s .machine) (stored 4 (s .machine .levels) l x); words = s .words }
 
+unfoldable pub putMasks : State → List ℕ → State
+putMasks s ks = record { machine = withMasks (s .machine) ks; words = s .words }
+
 unfoldable pub setMask : State → ℕ → ℕ → ℕ → State
-setMask s l p k = record { machine = withMasks (s .machine) (stored 256 (s .machine .masks) (4 * p + l) k); words = s .words }
+setMask s l p k = putMasks s (stored 256 (s .machine .masks) (4 * p + l) k)
 
 -- Level l's mask of each page below P, among the first n and among all.
 unfoldable pub filled : ℕ → ℕ → ℕ → ℕ → List ℕ → List ℕ
@@ -107,7 +110,7 @@ filled zero P l k ks = ks
 filled (suc p) P l k ks = let ns = filled p P l k ks in cond (ltb p P) (stored 256 ns (4 * p + l) k) ns
 
 unfoldable pub fillMasks : State → ℕ → ℕ → State
-fillMasks s l k = record { machine = withMasks (s .machine) (filled 64 (pages s) l k (s .machine .masks)); words = s .words }
+fillMasks s l k = putMasks s (filled 64 (pages s) l k (s .machine .masks))
 
 unfoldable pub setWord : State → ℕ → ℕ → State
 setWord s p x = record { machine = s .machine; words = set (s .words) p x }

@@ -1,0 +1,3 @@
+-- The theorems of specs/. They rest on the laws of one step in `model`: hiding, what a step leaves, well-formedness.
+pub mod Runs  -- demand 3
+pub mod Instance  -- an instance of demand 3

@@ -1,0 +1,77 @@
+-- An instance of demand 3, with K = 1: two states that differ in RIP of level 1, which is enabled, in RSP of level 2, which is
+-- not, and in the word of page 1, which level 1 has closed; and a list of events. Assumes nothing.
+use mathlib.Core.Path.{_≡_}
+use mathlib.Core.Bool.{Bool, true, false}
+use mathlib.Core.List.{List, [], _∷_}
+use Prim.Native.Nat.{ℕ}
+use lib.ListN.{replicate}
+use Rattle.model.specs.declared.answer.Answer.the-variants.{Done, Refused, Intercept}
+use Rattle.model.specs.declared.answer.Refusal.the-variants.{Malformed, UndefinedOpcode, NotPermitted}
+use Rattle.model.specs.declared.event.Event.{Event}
+use Rattle.model.specs.declared.event.Event.the-variants.{Envp, Call, Read, Flush, Rreg, Wreg, Int}
+use Rattle.model.specs.declared.machine.Context.{Context}
+use Rattle.model.specs.declared.machine.PartitionLevel.{PartitionLevel}
+use Rattle.model.specs.declared.quantity.Page.{Page}
+use Rattle.model.specs.declared.quantity.Processor.{Processor}
+use Rattle.model.specs.Registers.{privateOf}
+use Rattle.model.specs.State.{State, level, shape, vp, wordOf, noControl}
+use Rattle.model.specs.Step.{answers, final}
+use Rattle.isolation.specs.Isolation.{Isolated}
+
+abbrev pub contextOf : Bool → ℕ → ℕ → Context
+contextOf on rip rsp = record { registers = rip ∷ rsp ∷ 0 ∷ 1 ∷ replicate 9 0; tpr = 0; pending = replicate 4 0; enabled = on; secure = replicate 4 0; control = noControl }
+
+abbrev pub partOf : Bool → ℕ → PartitionLevel
+partOf on config = record { enabled = on; mbec = false; config = config }
+
+-- Two processors, levels 0 to 2, two pages. Level 1 has protections on, and its mask of page 1 is 0.
+abbrev pub stateOf : ℕ → ℕ → ℕ → State
+stateOf rip rsp secret = record {
+  machine = record {
+    processors = 2;
+    pages = 2;
+    «host_mask» = 15;
+    shape = record { «max_level» = level 2; «dr6_shared» = false };
+    levels = partOf true 62 ∷ partOf true 63 ∷ partOf true 62 ∷ partOf false 62 ∷ [];
+    masks = 15 ∷ 15 ∷ 15 ∷ 15 ∷ 15 ∷ 0 ∷ replicate 250 15;
+    vps = replicate 4 (record { active = level 0; shared = replicate 20 0; contexts = contextOf true 0 0 ∷ contextOf true rip 0 ∷ contextOf false 0 rsp ∷ contextOf false 0 0 ∷ [] });
+  };
+  words = 5 ∷ secret ∷ [];
+}
+
+abbrev pub vpOf : ℕ → Processor
+vpOf n = record { 0 = n }
+
+abbrev pub pageOf : ℕ → Page
+pageOf n = record { 0 = n }
+
+abbrev pub events : List Event
+events =
+    -- RCX is set, so the call into level 1 is refused
+    Wreg (vpOf 0) 0 (level 0) 14 5 ∷ Call (vpOf 0) 0 3
+    -- a read that is done, an event out of range, a register of a higher level
+    ∷ Read (vpOf 1) 0 (pageOf 0) ∷ Flush (vpOf 9) 0 ∷ Rreg (vpOf 0) 0 (level 1) 0
+    -- level 2 is first enabled, on processor 1
+    ∷ Envp (vpOf 0) 0 (vpOf 1) (level 2) 4096 8192 1
+    -- an interrupt enters level 1 on processor 0, an intercept on processor 1, and an interrupt enters level 2 there
+    ∷ Int (vpOf 0) (level 1) 48 ∷ Read (vpOf 1) 0 (pageOf 1) ∷ Int (vpOf 1) (level 2) 50 ∷ []
+
+-- What the theorem says of them.
+abbrev pub one : State
+one = stateOf 7 3 70
+
+abbrev pub two : State
+two = stateOf 8 4 80
+
+pub record Instance : Type 0 where
+  -- its hypotheses hold, so it holds
+  pub isolated : Isolated 1 one two events
+  -- the answers of the first run, and so those of the second
+  pub first-answers : answers one events ≡ Done 0 ∷ Refused UndefinedOpcode ∷ Done 5 ∷ Refused Malformed ∷ Refused NotPermitted ∷ Done 0 ∷ Done 1 ∷ Intercept (level 1) ∷ Done 1 ∷ []
+  pub second-answers : answers two events ≡ answers one events
+  -- RIP of level 1 on processor 0, RSP of level 2 there, and the word of page 1 stand as they began
+  pub rip-kept : privateOf (shape (final two events)) (vp (final two events) 0) 1 0 ≡ 8
+  pub rsp-kept : privateOf (shape (final two events)) (vp (final two events) 0) 2 1 ≡ 4
+  pub word-kept : wordOf (final two events) 1 ≡ 80
+  -- RIP of level 2 on processor 1, which the run first enabled, is equal in both
+  pub rip-first : privateOf (shape (final one events)) (vp (final one events) 1) 2 0 ≡ privateOf (shape (final two events)) (vp (final two events) 1) 2 0

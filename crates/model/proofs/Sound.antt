@@ -1,0 +1,284 @@
+-- A well-formed processor stays so under each update that an event makes of its record.
+-- Assumes nothing.
+use mathlib.Core.Path.{_≡_, refl, sym, ap, _∙_}
+use mathlib.Core.Bool.{Bool, true, false, not, cond, _&&_, _||_, true≢false}
+use mathlib.Core.List.{List}
+use Prim.Native.Nat.{ℕ, zero, suc, _/_, _%_, _≤_, _<_}
+use native.Mathlib.Omega.{arith}
+use lib.Dec.{leb, ltb, eqb}
+use borrow.Author.Tests.{lt-ltb, ltb-true}
+use Rattle.word.specs.Field.{field, put, bit}
+use Rattle.word.proofs.FieldLaws.{take-put-below, take-put-above, bit-put-below}
+use Rattle.model.specs.declared.machine.Context.{Context}
+use Rattle.model.specs.declared.machine.Control.{Control}
+use Rattle.model.specs.declared.machine.Shape.{Shape}
+use Rattle.model.specs.declared.machine.VirtualProcessor.{VirtualProcessor}
+use Rattle.model.specs.Arrays.{numberAt}
+use Rattle.model.specs.Bounded.{every}
+use Rattle.model.specs.Entry.{recordOf, enter, isReady, highestReady, nextUp, advanced, called, restored, waiting, reentered, left, returned, enters, interrupted, startedContext, started, acknowledged, byCall, byInterrupt}
+use Rattle.model.specs.Masks.{secureReservedSet}
+use Rattle.model.specs.Registers.{rip, rax, rcx, isPrivate, sharedOf}
+use Rattle.model.specs.State.{top, isLevel, context, activeOf, enabledAt, isPending, mbecBit, lockBit}
+use Rattle.model.specs.Updates.{withSecure, withControl, withActive, putContext, setShared, setPrivate, setRegister, setTpr, setPending, setSecure, cleared, unlocked}
+use Rattle.model.specs.WellFormed.{wellEntered, wellFormedContext}
+use Rattle.model.proofs.Arrays.{number-cases}
+use Rattle.model.proofs.Bools.{and-left, and-right, both, implied, implies-test, hold, all-hold, cond-holds}
+use Rattle.model.proofs.Bounded.{every-at, every-all, highest-found}
+use Rattle.model.proofs.Moves.{context-cases}
+use Rattle.model.proofs.Found.{enabled-level, nextUp-found, waiting-found, advanced-active, unlocked-active}
+
+-- A secure word that well-formedness allows, where the partition has MBEC for the setting level as `mbec` tells.
+abbrev pub allowed : Bool → ℕ → Bool
+allowed mbec w = not (secureReservedSet w) && (not (bit w mbecBit) || mbec)
+
+-- What well-formedness asks of a context of level l, field by field; `up` tells the levels enabled on the processor.
+pub record Sound (l : ℕ) (on mbec : Bool) (up : ℕ → Bool) (enabled : Bool) (tpr : ℕ) (pending secure : List ℕ) (control : Control) : Type 0 where
+  pub part : enabled ≡ true → on ≡ true
+  pub entry : 0 < l → enabled ≡ true → wellEntered l (up (control .from .0)) control ≡ true
+  pub words : (j : ℕ) → j < l → allowed mbec (numberAt 4 secure j) ≡ true
+  pub class : leb tpr 15 ≡ true
+  pub low : eqb (field 0 16 (numberAt 4 pending 0)) 0 ≡ true
+  pub idle : enabled ≡ false → every 4 (λ i. eqb (numberAt 4 pending i) 0) ≡ true
+
+abbrev pub SoundContext : ℕ → Bool → Bool → (ℕ → Bool) → Context → Type 0
+SoundContext l on mbec up c = Sound l on mbec up (c .enabled) (c .tpr) (c .pending) (c .secure) (c .control)
+
+-- As the test that the definition makes, and back.
+pub sound-test : (l : ℕ) (on mbec : Bool) (up : ℕ → Bool) (c : Context) → SoundContext l on mbec up c → wellFormedContext l on mbec (up (c .control .from .0)) c ≡ true
+unfolding wellFormedContext
+sound-test l on mbec up c g = all-hold _ (
+  implies-test (c .enabled) on (g .part),
+  (
+    implies-test (ltb 0 l && c .enabled) _ (λ h. g .entry (ltb-true 0 l (and-left (ltb 0 l) (c .enabled) h)) (and-right (ltb 0 l) (c .enabled) h)),
+    (every-all l _ (g .words), (g .class, (g .low, (go (c .enabled) (g .idle), tt)))),
+  ),
+)
+  where
+    go : (b : Bool) → (b ≡ false → every 4 (λ i. eqb (numberAt 4 (c .pending) i) 0) ≡ true) → (b || every 4 (λ i. eqb (numberAt 4 (c .pending) i) 0)) ≡ true
+    go true f = refl
+    go false f = f refl
+
+pub test-sound : (l : ℕ) (on mbec : Bool) (up : ℕ → Bool) (c : Context) → wellFormedContext l on mbec (up (c .control .from .0)) c ≡ true → SoundContext l on mbec up c
+unfolding wellFormedContext
+test-sound l on mbec up c h =
+    let t = hold _ h in
+    record {
+      part = implied (c .enabled) on (t .0);
+      entry = λ o e. implied (ltb 0 l && c .enabled) _ (t .1 .0) (rw (lt-ltb 0 l o) e);
+      words = every-at l _ (t .1 .1 .0);
+      class = t .1 .1 .1 .0;
+      low = t .1 .1 .1 .1 .0;
+      idle = go (c .enabled) (t .1 .1 .1 .1 .1 .0);
+    }
+  where
+    go : (b : Bool) → (b || every 4 (λ i. eqb (numberAt 4 (c .pending) i) 0)) ≡ true → b ≡ false → every 4 (λ i. eqb (numberAt 4 (c .pending) i) 0) ≡ true
+    go true q e = absurd (true≢false e)
+    go false q e = q
+
+-- More levels enabled, on the processor and for the partition.
+pub sound-more : (l : ℕ) (on on′ mbec mbec′ : Bool) (up up′ : ℕ → Bool) (c : Context) → (on ≡ true → on′ ≡ true) → (mbec ≡ true → mbec′ ≡ true) → ((i : ℕ) → up i ≡ true → up′ i ≡ true) → SoundContext l on mbec up c → SoundContext l on′ mbec′ up′ c
+unfolding wellEntered
+sound-more l on on′ mbec mbec′ up up′ c f m u g = record {
+  part = λ e. f (g .part e);
+  entry = λ o e. let t = hold _ (g .entry o e) in all-hold _ (t .0, (u (c .control .from .0) (t .1 .0), t .1 .1));
+  words = λ j h. more (numberAt 4 (c .secure) j) (g .words j h);
+  class = g .class;
+  low = g .low;
+  idle = g .idle;
+}
+  where
+    more : (w : ℕ) → allowed mbec w ≡ true → allowed mbec′ w ≡ true
+    more w h = both (not (secureReservedSet w)) _ (and-left (not (secureReservedSet w)) _ h) (implies-test (bit w mbecBit) mbec′ (λ b. m (implied (bit w mbecBit) mbec (and-right (not (secureReservedSet w)) _ h) b)))
+
+-- One processor. `on` and `mbec` tell what the partition has of each level.
+module _ (z : Shape) (on mbec : ℕ → Bool) where
+  pub record SoundVp (p : VirtualProcessor) : Type 0 where
+    pub base : enabledAt z p 0 ≡ true
+    pub current : enabledAt z p (activeOf p) ≡ true
+    pub each : (l : ℕ) → l < 4 → SoundContext l (on l) (mbec l) (enabledAt z p) (context z p l)
+
+  -- A context put in place of one that it leaves enabled.
+  put-more : (p : VirtualProcessor) (l : ℕ) (c : Context) → (enabledAt z p l ≡ true → c .enabled ≡ true) → (i : ℕ) → enabledAt z p i ≡ true → enabledAt z (putContext p l c) i ≡ true
+  unfolding enabledAt
+  put-more p l c f i h = context-cases (λ d. d .enabled ≡ true) z p l i c h (λ e. f (rw e at h))
+
+  put-sound : (p : VirtualProcessor) (l : ℕ) (c : Context) → SoundVp p → (enabledAt z p l ≡ true → c .enabled ≡ true) → SoundContext l (on l) (mbec l) (enabledAt z p) c → SoundVp (putContext p l c)
+  put-sound p l c g f h = record {
+    base = put-more p l c f 0 (g .base);
+    current = rw (active-put p l c) (put-more p l c f (activeOf p) (g .current));
+    each = λ j i. sound-more j (on j) (on j) (mbec j) (mbec j) (enabledAt z p) (enabledAt z (putContext p l c)) (context z (putContext p l c) j) (λ e. e) (λ e. e) (put-more p l c f)
+        (context-cases (λ d. SoundContext j (on j) (mbec j) (enabledAt z p) d) z p l j c (g .each j i) (λ e. rw e h));
+  }
+    where
+      active-put : (p : VirtualProcessor) (l : ℕ) (c : Context) → activeOf (putContext p l c) ≡ activeOf p
+      active-put p l c = unfold activeOf putContext in refl
+
+  -- An update of an enabled level's context, or of any that keeps it enabled or not.
+  alter-sound : (p : VirtualProcessor) (l : ℕ) (c : Context) → isLevel z l ≡ true → c .enabled ≡ context z p l .enabled → SoundVp p →
+      (SoundContext l (on l) (mbec l) (enabledAt z p) (context z p l) → SoundContext l (on l) (mbec l) (enabledAt z p) c) → SoundVp (putContext p l c)
+  unfolding enabledAt isLevel
+  alter-sound p l c i e g f = put-sound p l c g (λ h. e ∙ h) (f (g .each l (ltb-true l 4 (and-right (leb l (top z)) (ltb l 4) i))))
+
+  -- What does not touch a context.
+  active-sound : (p : VirtualProcessor) (l : ℕ) → SoundVp p → enabledAt z p l ≡ true → SoundVp (withActive p l)
+  unfolding enabledAt context activeOf
+  active-sound p l g h = record { base = g .base; current = h; each = g .each }
+
+  setShared-sound : (p : VirtualProcessor) (r x : ℕ) → SoundVp p → SoundVp (setShared p r x)
+  unfolding enabledAt context activeOf setShared
+  setShared-sound p r x g = record { base = g .base; current = g .current; each = g .each }
+
+  -- Registers.
+  setPrivate-sound : (p : VirtualProcessor) (l r x : ℕ) → isLevel z l ≡ true → SoundVp p → SoundVp (setPrivate z p l r x)
+  unfolding setPrivate
+  setPrivate-sound p l r x i g = alter-sound p l _ i refl g (λ h. h)
+
+  pub setRegister-sound : (p : VirtualProcessor) (l r x : ℕ) → isLevel z l ≡ true → SoundVp p → SoundVp (setRegister z p l r x)
+  unfolding setRegister
+  setRegister-sound p l r x i g = cond-holds SoundVp (isPrivate z r) _ _ (setPrivate-sound p l r x i g) (setShared-sound p r x g)
+
+  -- Entry.
+  pub enter-sound : (p : VirtualProcessor) (l reason : ℕ) → eqb reason 0 ≡ false → leb reason 2 ≡ true → activeOf p < l → enabledAt z p l ≡ true → SoundVp p → SoundVp (enter z p l reason)
+  unfolding enter enabledAt
+  enter-sound p l reason a b c u g =
+      let i = enabled-level z p l u in
+      active-sound _ l (alter-sound p l (withControl (context z p l) (recordOf p reason)) i refl g (λ h. record {
+        part = h .part;
+        entry = λ o e. unfold wellEntered activeOf in all-hold _ (lt-ltb (activeOf p) l c, (g .current, (rw a, (b, tt))));
+        words = h .words;
+        class = h .class;
+        low = h .low;
+        idle = h .idle;
+      })) (put-more p l _ (λ h. h) l u)
+
+  advanced-sound : (p : VirtualProcessor) (n : ℕ) → SoundVp p → SoundVp (advanced z p n)
+  unfolding advanced
+  advanced-sound p n g = setPrivate-sound p (activeOf p) rip _ (enabled-level z p (activeOf p) (g .current)) g
+
+  pub called-sound : (p : VirtualProcessor) (n : ℕ) → eqb (nextUp z p) 4 ≡ false → SoundVp p → SoundVp (called z p n)
+  unfolding called
+  called-sound p n h g =
+      let f = nextUp-found z p h in
+      enter-sound (advanced z p n) (nextUp z p) byCall refl refl (rw (advanced-active z p n) (f .0)) (rw (advanced-enabled p n (nextUp z p)) (f .1)) (advanced-sound p n g)
+    where
+      advanced-enabled : (p : VirtualProcessor) (n l : ℕ) → enabledAt z (advanced z p n) l ≡ enabledAt z p l
+      advanced-enabled p n l = unfold enabledAt advanced setPrivate in context-cases (λ d. d .enabled ≡ context z p l .enabled) z p (activeOf p) l _ refl (λ e. ap (λ j. context z p j .enabled) (sym e))
+
+  -- Pending vectors, from 16 up, at an enabled level.
+  pub setPending-sound : (p : VirtualProcessor) (l n x : ℕ) → 16 ≤ n → enabledAt z p l ≡ true → SoundVp p → SoundVp (setPending z p l n x)
+  unfolding setPending enabledAt
+  setPending-sound p l n x a u g = alter-sound p l _ (enabled-level z p l u) refl g (λ h. record {
+    part = h .part;
+    entry = h .entry;
+    words = h .words;
+    class = h .class;
+    low = number-cases (λ y. eqb (field 0 16 y) 0 ≡ true) 4 (context z p l .pending) (n / 64) 0 _ (h .low) (λ e.
+        rw (take-put-below (n % 64) 1 0 16 (numberAt 4 (context z p l .pending) (n / 64)) x (omega arith), sym e) (h .low));
+    idle = λ d. absurd (true≢false (sym u ∙ d));
+  })
+
+  pub interrupted-sound : (p : VirtualProcessor) (g n : ℕ) → 16 ≤ n → enabledAt z p g ≡ true → SoundVp p → SoundVp (interrupted z p g n)
+  unfolding interrupted enters
+  interrupted-sound p g n a u h = go (ltb (activeOf p) g) refl (isReady (context z p g) n)
+    where
+      q : VirtualProcessor
+      q = setPending z p g n 1
+
+      sound-q : SoundVp q
+      sound-q = setPending-sound p g n 1 a u h
+
+      still : enabledAt z q g ≡ true
+      still = unfold setPending enabledAt in put-more p g _ (λ h. h) g u
+
+      go : (b : Bool) → ltb (activeOf p) g ≡ b → (c : Bool) → SoundVp (cond (b && c) (enter z q g byInterrupt) q)
+      go true e true = enter-sound q g byInterrupt refl refl (unfold setPending putContext activeOf in ltb-true (activeOf p) g e) still sound-q
+      go true e false = sound-q
+      go false e c = sound-q
+
+  -- A vector that is ready is above 15.
+  pub acknowledged-sound : (p : VirtualProcessor) → eqb (highestReady (context z p (activeOf p))) 0 ≡ false → SoundVp p → SoundVp (acknowledged z p)
+  unfolding acknowledged highestReady isReady
+  acknowledged-sound p h g =
+      let n : ℕ = highestReady (context z p (activeOf p)) in
+      let f = highest-found 256 (λ n. isPending (context z p (activeOf p)) n && isReady (context z p (activeOf p)) n) h in
+      let r : context z p (activeOf p) .tpr < n / 16 = ltb-true _ _ (and-right (isPending (context z p (activeOf p)) n) _ (f .1)) in
+      setPending-sound p (activeOf p) n 0 (omega arith) (g .current) g
+
+  pub setTpr-sound : (p : VirtualProcessor) (l class : ℕ) → isLevel z l ≡ true → leb class 15 ≡ true → SoundVp p → SoundVp (setTpr z p l class)
+  unfolding setTpr
+  setTpr-sound p l class i c g = alter-sound p l _ i refl g (λ h. record { part = h .part; entry = h .entry; words = h .words; class = c; low = h .low; idle = h .idle })
+
+  -- Secure words.
+  words-sound : (p : VirtualProcessor) (t : ℕ) (ws : List ℕ) → isLevel z t ≡ true → ((j : ℕ) → j < t → allowed (mbec t) (numberAt 4 (context z p t .secure) j) ≡ true → allowed (mbec t) (numberAt 4 ws j) ≡ true) → SoundVp p →
+      SoundVp (putContext p t (withSecure (context z p t) ws))
+  words-sound p t ws i f g = alter-sound p t _ i refl g (λ h. record { part = h .part; entry = h .entry; words = λ j b. f j b (h .words j b); class = h .class; low = h .low; idle = h .idle })
+
+  pub setSecure-sound : (p : VirtualProcessor) (t l w : ℕ) → isLevel z t ≡ true → allowed (mbec t) w ≡ true → SoundVp p → SoundVp (setSecure z p t l w)
+  unfolding setSecure
+  setSecure-sound p t l w i h g = words-sound p t _ i (λ j b old. number-cases (λ y. allowed (mbec t) y ≡ true) 4 (context z p t .secure) l j w old (λ e. h)) g
+
+  -- Without its lock bit a word is allowed as before.
+  unlock-allowed : (m : Bool) (w : ℕ) → allowed m w ≡ true → allowed m (put lockBit 1 w 0) ≡ true
+  unlock-allowed m w h = rw (take-put-above 1 1 2 62 w 0 (omega arith), bit-put-below 1 1 0 w 0 (omega arith)) h
+
+  cleared-allowed : (m : Bool) (n j : ℕ) (ws : List ℕ) → allowed m (numberAt 4 ws j) ≡ true → allowed m (numberAt 4 (cleared n ws) j) ≡ true
+  unfolding cleared
+  cleared-allowed m zero j ws h = h
+  cleared-allowed m (suc n) j ws h =
+      let q = cleared-allowed m n j ws h in
+      number-cases (λ y. allowed m y ≡ true) 4 (cleared n ws) n j _ q (λ e. unlock-allowed m (numberAt 4 (cleared n ws) n) (rw e at q))
+
+  unlocked-sound : (p : VirtualProcessor) (t : ℕ) → isLevel z t ≡ true → SoundVp p → SoundVp (unlocked z p t)
+  unfolding unlocked
+  unlocked-sound p t i g = words-sound p t _ i (λ j b old. cleared-allowed (mbec t) 4 j (context z p t .secure) old) g
+
+  -- Return: the level that the control record names is enabled.
+  restored-sound : (p : VirtualProcessor) → SoundVp p → SoundVp (restored z p)
+  unfolding restored
+  restored-sound p g = cond-holds SoundVp (eqb (sharedOf p rcx) 0) _ p (setShared-sound _ rcx _ (setShared-sound p rax _ g)) g
+
+  restored-enabled : (p : VirtualProcessor) (l : ℕ) → enabledAt z (restored z p) l ≡ enabledAt z p l
+  unfolding enabledAt context restored setShared
+  restored-enabled p l = cond-holds (λ q. enabledAt z q l ≡ enabledAt z p l) (eqb (sharedOf p rcx) 0) _ p refl refl
+
+  left-sound : (p : VirtualProcessor) → 0 < activeOf p → SoundVp p → SoundVp (left z p)
+  unfolding left
+  left-sound p o g =
+      let i : activeOf p < 4 = unfold isLevel in ltb-true (activeOf p) 4 (and-right (leb (activeOf p) (top z)) (ltb (activeOf p) 4) (enabled-level z p (activeOf p) (g .current))) in
+      let entered = g .each (activeOf p) i .entry o (unfold enabledAt in g .current) in
+      active-sound (restored z p) _ (restored-sound p g) (rw (restored-enabled p (context z p (activeOf p) .control .from .0)) (unfold wellEntered in hold _ entered .1 .0))
+
+  reentered-sound : (p : VirtualProcessor) → SoundVp p → SoundVp (reentered z p)
+  unfolding reentered
+  reentered-sound p g = go (eqb (waiting z p) 0) refl
+    where
+      go : (b : Bool) → eqb (waiting z p) 0 ≡ b → SoundVp (cond b p (enter z p (waiting z p) byInterrupt))
+      go true e = g
+      go false e = let f = waiting-found z p e in enter-sound p (waiting z p) byInterrupt refl refl (f .0) (f .1) g
+
+  pub returned-sound : (p : VirtualProcessor) (n : ℕ) → 0 < activeOf p → SoundVp p → SoundVp (returned z p n)
+  unfolding returned
+  returned-sound p n o g = reentered-sound _ (left-sound (unlocked z q (activeOf p)) (rw (unlocked-active z q (activeOf p), same) o) (unlocked-sound q (activeOf p) (enabled-level z p (activeOf p) (g .current)) sound-q))
+    where
+      q : VirtualProcessor
+      q = cond (eqb (context z p (activeOf p) .control .reason) byCall) (advanced z p n) p
+
+      same : activeOf q ≡ activeOf p
+      same = cond-holds (λ x. activeOf x ≡ activeOf p) (eqb (context z p (activeOf p) .control .reason) byCall) (advanced z p n) p (advanced-active z p n) refl
+
+      sound-q : SoundVp q
+      sound-q = cond-holds SoundVp (eqb (context z p (activeOf p) .control .reason) byCall) (advanced z p n) p (advanced-sound p n g) g
+
+  -- A level that is first enabled, where the partition has it enabled.
+  pub started-sound : (p : VirtualProcessor) (t ip sp cr : ℕ) → isLevel z t ≡ true → 0 < t → on t ≡ true → SoundVp p → SoundVp (started z p t ip sp cr)
+  unfolding started isLevel
+  started-sound p t ip sp cr i o e g =
+      let h = g .each t (ltb-true t 4 (and-right (leb t (top z)) (ltb t 4) i)) in
+      put-sound p t (startedContext (context z p t) ip sp cr) g (λ d. refl) (record {
+        part = λ d. e;
+        entry = λ d q. unfold wellEntered in all-hold _ (lt-ltb 0 t o, (g .base, (refl, (refl, tt))));
+        words = h .words;
+        class = refl;
+        low = unfold numberAt in refl;
+        idle = λ d. absurd (true≢false d);
+      })

@@ -1,0 +1,316 @@
+-- A step commutes with hiding: the answer is the same, and the next state is the hidden one of the next state.
+-- Assumes nothing.
+use mathlib.Core.Path.{_≡_, refl, sym, _∙_}
+use mathlib.Core.Bool.{Bool, true, false, not, cond, _&&_, _||_, false≢true}
+use mathlib.Core.List.{List, [], _∷_}
+use mathlib.Core.Option.{some}
+use Prim.Native.Nat.{ℕ, zero, suc, _≤_, _<_}
+use native.Mathlib.Omega.{arith}
+use lib.Dec.{leb, ltb, eqb}
+use borrow.Author.Tests.{lt-ltb, le-ltb, lt-leb, ne-eqb, ltb-true, ltb-false, leb-true, leb-false, eqb-true, eqb-false, not-false}
+use Rattle.word.specs.Field.{bit}
+use Rattle.model.specs.declared.answer.Answer.the-variants.{Done, Refused, Intercept}
+use Rattle.model.specs.declared.answer.Refusal.the-variants.{Malformed}
+use Rattle.model.specs.declared.event.Event.{Event}
+use Rattle.model.specs.declared.event.Event.the-variants.{Enpart, Envp, Call, Ret, Read, Write, Fetch, Protect, Config, Secure, Flush, Rreg, Wreg, Tpr, Ack, Int, Pstat, Vstat, Caps}
+use Rattle.model.specs.declared.machine.Shape.{Shape}
+use Rattle.model.specs.declared.machine.VirtualProcessor.{VirtualProcessor}
+use Rattle.model.specs.declared.quantity.Access.{Access}
+use Rattle.model.specs.Arrays.{numberAt}
+use Rattle.model.specs.Bounded.{every}
+use Rattle.model.specs.Entry.{enter, highestReady, nextUp, called, returned, interrupted, started, acknowledged, byInterrupt}
+use Rattle.model.specs.Events.{own, locked}
+use Rattle.model.specs.Masks.{validMask, readBit, writeBit, secureReservedSet, protects}
+use Rattle.model.specs.Memory.{needed, mbecOn, denies, denied, receiver, hostDenies}
+use Rattle.model.specs.Registers.{cr0, rflags, rcx, protectedBit, isPrivate, privateOf, sharedOf}
+use Rattle.model.specs.State.{State, level, processors, shape, pages, isProcessor, vp, context, partitionLevel, activeOf, active, enabledAt, enabledOn, maskOf, hostMask, secureOf, mbecBit}
+use Rattle.model.specs.Step.{Outcome, rule, maker, intercepted, nextFor, answered, ruled, step}
+use Rattle.model.specs.Updates.{withEnabled, setRegister, setTpr, setSecure}
+use Rattle.model.specs.WellFormed.{wellSized, wellFormedContext, wellFormedVp, wellFormedLevel, wellFormedParts, wellModed, wellFormed}
+use Rattle.model.proofs.Answers.{Passed, Taken, condition-cases}
+use Rattle.model.proofs.Bools.{and-left, and-right, and-not, not-and, implied, implies-test, and-cong}
+use Rattle.model.proofs.Bounded.{every-at, every-all, every-cong, any-at, any-none}
+use Rattle.model.specs.Hide.{closed, hides, hideContext, hideVp, hidePartition, hide}
+use Rattle.model.specs.Hide.{quietMaker}
+use Rattle.model.specs.MapAt.{mapAt}
+use Rattle.model.proofs.Found.{enabled-level}
+use Rattle.model.proofs.Formed.{is-processor, is-level, is-page, active-level, host-valid, mask-valid}
+use Rattle.model.proofs.Visible
+use Rattle.model.proofs.Visible.{hidden, context-hide, enabled-same, tpr-same, pending-same, secure-same, control-same, highest-same}
+use Rattle.model.proofs.Whole
+use Rattle.model.proofs.Whole.{processors-same, shape-same, maxLevel-same, pages-same, processor-same, host-same, lent-same, vp-hide, onVp-hide, onLevel-hide, active-hide, enabledOn-hide, partition-hide, enabledFor-hide, mbecFor-hide, config-hide, protects-hide, mask-hide, word-hide, setWord-hide}
+
+ruleset Same = (processors-same, shape-same, maxLevel-same, pages-same, active-hide, enabledOn-hide, enabledFor-hide, mbecFor-hide, config-hide, protects-hide, mask-hide)
+
+-- Well-formedness of one processor's record.
+module _ (K : ℕ) (E : ℕ → Bool) (z : Shape) (p : VirtualProcessor) where
+  secure-number : (l j : ℕ) → j < l → numberAt 4 (context z (hideVp K E z p) l .secure) j ≡ numberAt 4 (context z p l .secure) j
+  secure-number l j h = unfold secureOf in (rw (lt-ltb j l h) at (secure-same K E z p l j))
+
+  context-formed : (l : ℕ) (on mbec : Bool) →
+      wellFormedContext l on mbec (enabledAt z (hideVp K E z p) (context z (hideVp K E z p) l .control .from .0)) (context z (hideVp K E z p) l)
+      ≡ wellFormedContext l on mbec (enabledAt z p (context z p l .control .from .0)) (context z p l)
+  unfolding wellFormedContext
+  context-formed l on mbec = go l
+    where
+      enabled : (l : ℕ) → context z (hideVp K E z p) l .enabled ≡ context z p l .enabled
+      enabled l = unfold enabledAt in enabled-same K E z p l
+
+      words : (l : ℕ) → every l (λ j. not (secureReservedSet (numberAt 4 (context z (hideVp K E z p) l .secure) j)) && (not (bit (numberAt 4 (context z (hideVp K E z p) l .secure) j) mbecBit) || mbec))
+          ≡ every l (λ j. not (secureReservedSet (numberAt 4 (context z p l .secure) j)) && (not (bit (numberAt 4 (context z p l .secure) j) mbecBit) || mbec))
+      words l = every-cong l _ _ (λ j h. rw (secure-number l j h))
+
+      go : (l : ℕ) → wellFormedContext l on mbec (enabledAt z (hideVp K E z p) (context z (hideVp K E z p) l .control .from .0)) (context z (hideVp K E z p) l)
+          ≡ wellFormedContext l on mbec (enabledAt z p (context z p l .control .from .0)) (context z p l)
+      go zero = simp (enabled, words, tpr-same, pending-same)
+      go (suc l) = simp (enabled, words, tpr-same, pending-same, control-same K E z p (suc l) (omega arith), enabled-same)
+
+-- CR0 bit 0 stays set where an enabled level's registers are hidden.
+cr0-kept : (z : Shape) (h : Bool) (xs : List ℕ) → bit (numberAt 13 xs cr0) protectedBit ≡ true → bit (numberAt 13 (mapAt (λ r x. cond (isPrivate z r) (cond h (cond (eqb r cr0 && true) 1 0) x) 0) xs) cr0) protectedBit ≡ true
+unfolding numberAt mapAt isPrivate
+cr0-kept z h [] q = q
+cr0-kept z h (a ∷ []) q = q
+cr0-kept z h (a ∷ b ∷ []) q = q
+cr0-kept z h (a ∷ b ∷ c ∷ []) q = q
+cr0-kept z true (a ∷ b ∷ c ∷ d ∷ xs) q = refl
+cr0-kept z false (a ∷ b ∷ c ∷ d ∷ xs) q = q
+
+cr0-hide : (K : ℕ) (E : ℕ → Bool) (z : Shape) (p : VirtualProcessor) (l : ℕ) → enabledAt z p l ≡ true → bit (privateOf z p l cr0) protectedBit ≡ true → bit (privateOf z (hideVp K E z p) l cr0) protectedBit ≡ true
+unfolding privateOf enabledAt hidden hideContext
+cr0-hide K E z p l on h = rw (context-hide, on) (cr0-kept z (hides K (E l) l true) (context z p l .registers) h)
+
+-- Read comes with Write.
+pub read-of-write : (m : ℕ) → validMask m ≡ true → bit m writeBit ≡ true → bit m readBit ≡ true
+read-of-write m v h = go (eqb m 0) refl (and-right (leb m 15) (eqb m 0 || bit m readBit) v)
+  where
+    go : (b : Bool) → eqb m 0 ≡ b → (b || bit m readBit) ≡ true → bit m readBit ≡ true
+    go true e q = absurd (false≢true (rw (eqb-true m 0 e) at h))
+    go false e q = q
+
+module _ (K : ℕ) (E : ℕ → ℕ → Bool) (H : ℕ → Bool) where
+  -- Well-formedness of the state.
+  sized-hide : (s : State) → wellSized (hide K E H s) ≡ wellSized s
+  unfolding wellSized
+  sized-hide s = simp (processors-same, maxLevel-same, pages-same, lent-same)
+
+  vp-formed : (s : State) (v : ℕ) → wellFormedVp (hide K E H s) (vp (hide K E H s) v) ≡ wellFormedVp s (vp s v)
+  unfolding wellFormedVp
+  vp-formed s v = simp (shape-same, vp-hide, enabledFor-hide, mbecFor-hide, context-formed) (simp (Visible.active-same, enabled-same))
+
+  level-formed : (s : State) (i : ℕ) → wellFormedLevel (hide K E H s) (suc i) ≡ wellFormedLevel s (suc i)
+  unfolding wellFormedLevel
+  level-formed s i = simp (partition-above s (suc i) (omega arith), mask-hide)
+    where
+      partition-above : (s : State) (l : ℕ) → 0 < l → partitionLevel (hide K E H s) l ≡ partitionLevel s l
+      partition-above s l h = partition-hide K E H s l ∙ unfold hidePartition in (rw (ne-eqb l 0 (λ e. omega arith)))
+
+  parts-hide : (s : State) → wellFormedParts (hide K E H s) ≡ wellFormedParts s
+  unfolding wellFormedParts
+  parts-hide s = simp (host-same, mbecFor-hide, processor-same, vp-formed, level-formed)
+
+  enabled-at : (s : State) (v l : ℕ) → enabledOn s v l ≡ true → enabledAt (shape s) (vp s v) l ≡ true
+  unfolding enabledOn
+  enabled-at s v l h = h
+
+  modes-hide : (s : State) → wellModed s ≡ true → wellModed (hide K E H s) ≡ true
+  unfolding wellModed
+  modes-hide s h = every-all 4 _ (λ v i. every-all 4 _ (λ l j. implies-test (ltb 0 l && enabledOn (hide K E H s) v l) _ (λ q.
+      let on : (ltb 0 l && enabledOn s v l) ≡ true = rw enabledOn-hide at q in
+      simp (shape-same, vp-hide) (cr0-hide K (E v) (shape s) (vp s v) l (enabled-at s v l (and-right (ltb 0 l) (enabledOn s v l) on))
+      (implied (ltb 0 l && enabledOn s v l) _ (every-at 4 _ (every-at 4 _ h v i) l j) on)))))
+
+  formed-hide : (s : State) → wellModed s ≡ true → wellFormed (hide K E H s) ≡ wellFormed s
+  unfolding wellFormed
+  formed-hide s h = and-cong (and-cong (sized-hide s) (λ z. parts-hide s)) (λ z. modes-hide s h ∙ sym h)
+
+  -- What an event asks before it is done.
+  needs-same : (s : State) (v t l : ℕ) → mbecOn (hide K E H s) v t l ≡ mbecOn s v t l
+  unfolding mbecOn
+  needs-same s v t l = simp (shape-same, vp-hide, secure-same)
+
+  denies-same : (s : State) (v mode p : ℕ) (a : Access) (t : ℕ) → denies (hide K E H s) v mode p a t ≡ denies s v mode p a t
+  unfolding denies
+  denies-same s v mode p a t = simp (active-hide, protects-hide, mask-hide, needs-same)
+
+  denied-same : (s : State) (v mode p : ℕ) (a : Access) → denied (hide K E H s) v mode p a ≡ denied s v mode p a
+  unfolding denied
+  denied-same s v mode p a = simp denies-same
+
+  receiver-same : (s : State) (v mode p : ℕ) (a : Access) → receiver (hide K E H s) v mode p a ≡ receiver s v mode p a
+  unfolding receiver
+  receiver-same s v mode p a = simp (denies-same, enabledOn-hide)
+
+  hostDenies-same : (s : State) (p : ℕ) (a : Access) → hostDenies (hide K E H s) p a ≡ hostDenies s p a
+  unfolding hostDenies hostMask
+  hostDenies-same s p a = simp host-same
+
+  own-same : (s : State) (v r : ℕ) → active s v < K → isPrivate (shape s) r ≡ true → own (hide K E H s) v r ≡ own s v r
+  unfolding own
+  own-same s v r h e = simp (shape-same, active-hide, vp-hide) (Visible.private-hide K (E v) (shape s) (vp s v) (active s v) r h e)
+
+  rcx-same : (s : State) (v : ℕ) → sharedOf (vp (hide K E H s) v) rcx ≡ sharedOf (vp s v) rcx
+  rcx-same s v = rw vp-hide (Visible.shared-hide K (E v) (shape s) (vp s v) rcx refl)
+
+  locked-same : (s : State) (l : ℕ) → locked (hide K E H s) l ≡ locked s l
+  unfolding locked
+  locked-same s l = simp (shape-same, vp-hide, secure-same)
+
+  nextUp-hide : (s : State) (v : ℕ) → nextUp (shape (hide K E H s)) (vp (hide K E H s) v) ≡ nextUp (shape s) (vp s v)
+  nextUp-hide s v = rw (shape-same, vp-hide) (Visible.nextUp-same K (E v) (shape s) (vp s v))
+
+  highest-hide : (s : State) (v l : ℕ) → highestReady (context (shape (hide K E H s)) (vp (hide K E H s) v) l) ≡ highestReady (context (shape s) (vp s v) l)
+  highest-hide s v l = rw (shape-same, vp-hide) (highest-same K (E v) (shape s) (vp s v) l)
+
+  -- The maker's active level is below K.
+  pub maker-low : 1 ≤ K → (s : State) (v : ℕ) → quietMaker K s (some v) ≡ true → active s v < K
+  unfolding quietMaker active activeOf vp isProcessor
+  maker-low k s v h = go (leb (processors s) v) refl h
+    where
+      go : (b : Bool) → leb (processors s) v ≡ b → (b || ltb (active s v) K) ≡ true → active s v < K
+      go true e d = rw (le-ltb v (processors s) (leb-true (processors s) v e)) k
+      go false e d = ltb-true (active s v) K d
+
+  refusals-same : 1 ≤ K → (s : State) (e : Event) → quietMaker K s (maker e) ≡ true → rule (hide K E H s) e .refusals ≡ rule s e .refusals
+  unfolding rule maker isPrivate
+  refusals-same k s (Enpart v mode t mbec) c = simp Same
+  refusals-same k s (Envp v mode w t ip sp cr) c = simp Same
+  refusals-same k s (Call v mode len) c = let low : active s (v .0) < K = maker-low k s (v .0) c in simp (processors-same, nextUp-hide, own-same s (v .0) cr0 low refl, rcx-same)
+  refusals-same k s (Ret v mode len) c = simp (Same, rcx-same)
+  refusals-same k s (Read v mode p) c = simp (Same, receiver-same, denied-same, hostDenies-same)
+  refusals-same k s (Write v mode p x) c = simp (Same, receiver-same, denied-same, hostDenies-same)
+  refusals-same k s (Fetch v mode p) c = simp (Same, receiver-same, denied-same, hostDenies-same)
+  refusals-same k s (Protect v mode p m) c = simp Same
+  refusals-same k s (Config v mode g w) c = simp Same
+  refusals-same k s (Secure v mode l w) c = simp Same
+  refusals-same k s (Flush v mode) c = simp (Same, locked-same)
+  refusals-same k s (Rreg v mode g r) c = simp Same
+  refusals-same k s (Wreg v mode g r x) c = simp Same
+  refusals-same k s (Tpr v mode class) c = simp Same
+  refusals-same k s (Ack v mode) c = let low : active s (v .0) < K = maker-low k s (v .0) c in simp (processors-same, active-hide, highest-hide, own-same s (v .0) rflags low refl)
+  refusals-same k s (Int w g n) c = simp Same
+  refusals-same k s (Pstat v mode) c = simp Same
+  refusals-same k s (Vstat v mode) c = simp Same
+  refusals-same k s (Caps v mode) c = simp Same
+
+  abbrev pub hideOutcome : Outcome → Outcome
+  hideOutcome o = record { answer = o .answer; next = hide K E H (o .next) }
+
+  -- Done events, at a well-formed state. The levels enabled at the start still are, and H tells the pages that are closed now.
+  module _ (k : 1 ≤ K) (s : State) (w : wellFormed s ≡ true) (grown : (v l : ℕ) → E v l ≡ true → enabledOn s v l ≡ true) (pages-closed : (p : ℕ) → H p ≡ closed K s p) where
+    -- A read or write that is done needs bit b of each mask, and a valid mask with bit b has Read: the page is open.
+    pub open-page : (a : Access) (b : ℕ) → ((m : Bool) (mode : ℕ) → needed m mode a ≡ b) → ((m : ℕ) → validMask m ≡ true → bit m b ≡ true → bit m readBit ≡ true) → (v mode p : ℕ) → active s v < K →
+        denied s v mode p a ≡ false → hostDenies s p a ≡ false → H p ≡ false
+    unfolding closed denied denies hostDenies
+    open-page a b needs weak v mode p h d e =
+        pages-closed p ∙ rw (weak (hostMask s p) (host-valid s w p) (rw needs at (not-false (bit (hostMask s p) (needed false 0 a)) e)))
+        (any-none 4 (λ t. leb K t && protects s t && not (bit (maskOf s t p) readBit)) (λ t i. not-and (leb K t && protects s t) (not (bit (maskOf s t p) readBit)) (λ q.
+        let above : K ≤ t = leb-true K t (and-left (leb K t) (protects s t) q) in
+        let allows : (ltb (active s v) t && protects s t && not (bit (maskOf s t p) b)) ≡ false = rw needs at (any-at 4 (λ t. denies s v mode p a t) d t i) in
+        let has : bit (maskOf s t p) b ≡ true =
+        not-false (bit (maskOf s t p) b) (and-not (ltb (active s v) t && protects s t) (not (bit (maskOf s t p) b)) allows (rw (lt-ltb (active s v) t (omega arith)) (and-right (leb K t) (protects s t) q))) in
+        rw (weak (maskOf s t p) (mask-valid s w t p) has))))
+
+    -- A level that is not enabled was not at the start.
+    not-grown : (v l : ℕ) → enabledOn s v l ≡ false → E v l ≡ false
+    not-grown v l h = go (E v l) refl
+      where
+        go : (b : Bool) → E v l ≡ b → b ≡ false
+        go true e = sym (grown v l e) ∙ h
+        go false e = refl
+
+    positive : (n : ℕ) → eqb n 0 ≡ false → 0 < n
+    positive n h = let d : (n ≡ 0 → ⊥) = eqb-false n 0 h in omega arith
+
+    effect-hide : (e : Event) → quietMaker K s (maker e) ≡ true → Passed (rule s e .refusals) → rule (hide K E H s) e .effect ≡ hide K E H (rule s e .effect)
+    unfolding rule maker active
+    effect-hide (Enpart v mode t mbec) c ps = onLevel-hide K E H s (t .0) (λ x. withEnabled x (eqb mbec 1)) (is-level s w (t .0) search) (unfold hidePartition in refl)
+    effect-hide (Envp v mode u t ip sp cr) c ps =
+        onVp-hide K E H s (u .0) (λ z p. started z p (t .0) ip sp cr) (is-processor s w (u .0) search) (Visible.started-hide K (E (u .0)) (shape s) (vp s (u .0)) (t .0) ip sp cr (is-level s w (t .0) search) (not-grown (u .0) (t .0) search))
+    effect-hide (Call v mode len) c ps =
+        let inside = is-processor s w (v .0) search in
+        onVp-hide K E H s (v .0) (λ z p. called z p len) inside (Visible.called-hide K (E (v .0)) (shape s) (vp s (v .0)) len (maker-low k s (v .0) c) (active-level s w (v .0) inside) search)
+    effect-hide (Ret v mode len) c ps =
+        let inside = is-processor s w (v .0) search in
+        let above : 0 < activeOf (vp s (v .0)) = positive (activeOf (vp s (v .0))) search in
+        onVp-hide K E H s (v .0) (λ z p. returned z p len) inside (Visible.returned-hide K (E (v .0)) (shape s) (vp s (v .0)) len (maker-low k s (v .0) c) (active-level s w (v .0) inside) above)
+    effect-hide (Read v mode p) c ps = refl
+    effect-hide (Write v mode p x) c ps = setWord-hide K E H s (p .0) x (open-page Access.Write writeBit (unfold needed in λ m mode. refl) read-of-write (v .0) mode (p .0) (maker-low k s (v .0) c) (search) (search))
+    effect-hide (Fetch v mode p) c ps = refl
+    effect-hide (Protect v mode p m) c ps =
+        rw active-hide (Whole.setMask-hide K E H s (active s (v .0)) (p .0) m (positive _ search) (active-level s w (v .0) (is-processor s w (v .0) search)) (is-page s w (p .0) search))
+    effect-hide (Config v mode g x) c ps = Whole.configured-hide K E H s (g .0) x (positive _ search) (is-level s w (g .0) search)
+    effect-hide (Secure v mode l x) c ps =
+        let inside = is-processor s w (v .0) search in
+        onVp-hide K E H s (v .0) (λ z p. setSecure z p (activeOf p) (l .0) x) inside (rw Visible.active-same (Visible.setSecure-hide K (E (v .0)) (shape s) (vp s (v .0)) (activeOf (vp s (v .0))) (l .0) x (active-level s w (v .0) inside) (leb-false _ _ search)))
+    effect-hide (Flush v mode) c ps = refl
+    effect-hide (Rreg v mode g r) c ps = refl
+    effect-hide (Wreg v mode g r x) c ps =
+        let low : activeOf (vp s (v .0)) < K = maker-low k s (v .0) c in
+        let below : g .0 ≤ activeOf (vp s (v .0)) = ltb-false _ _ search in
+        onVp-hide K E H s (v .0) (λ z p. setRegister z p (g .0) r x) (is-processor s w (v .0) search) (Visible.setRegister-hide K (E (v .0)) (shape s) (vp s (v .0)) (g .0) r x (omega arith) (is-level s w (g .0) search))
+    effect-hide (Tpr v mode class) c ps =
+        let inside = is-processor s w (v .0) search in
+        onVp-hide K E H s (v .0) (λ z p. setTpr z p (activeOf p) class) inside (rw Visible.active-same (Visible.setTpr-hide K (E (v .0)) (shape s) (vp s (v .0)) (activeOf (vp s (v .0))) class (active-level s w (v .0) inside)))
+    effect-hide (Ack v mode) c ps =
+        let inside = is-processor s w (v .0) search in
+        onVp-hide K E H s (v .0) acknowledged inside (Visible.acknowledged-hide K (E (v .0)) (shape s) (vp s (v .0)) (active-level s w (v .0) inside))
+    effect-hide (Int u g n) c ps =
+        onVp-hide K E H s (u .0) (λ z p. interrupted z p (g .0) n) (is-processor s w (u .0) search) (Visible.interrupted-hide K (E (u .0)) (shape s) (vp s (u .0)) (g .0) n (is-level s w (g .0) search))
+    effect-hide (Pstat v mode) c ps = refl
+    effect-hide (Vstat v mode) c ps = refl
+    effect-hide (Caps v mode) c ps = refl
+
+    value-same : (e : Event) → quietMaker K s (maker e) ≡ true → Passed (rule s e .refusals) → rule (hide K E H s) e .value ≡ rule s e .value
+    unfolding rule maker active
+    value-same (Enpart v mode t mbec) c ps = refl
+    value-same (Envp v mode u t ip sp cr) c ps = refl
+    value-same (Call v mode len) c ps = nextUp-hide s (v .0)
+    value-same (Ret v mode len) c ps =
+        let inside = is-processor s w (v .0) search in
+        let above : 0 < activeOf (vp s (v .0)) = positive (activeOf (vp s (v .0))) search in
+        rw (shape-same, vp-hide, Visible.returned-hide K (E (v .0)) (shape s) (vp s (v .0)) len (maker-low k s (v .0) c) (active-level s w (v .0) inside) above) (Visible.active-same K (E (v .0)) (shape s) _)
+    value-same (Read v mode p) c ps = word-hide K E H s (p .0) (open-page Access.Read readBit (unfold needed in λ m mode. refl) (λ m v h. h) (v .0) mode (p .0) (maker-low k s (v .0) c) (search) (search))
+    value-same (Write v mode p x) c ps = refl
+    value-same (Fetch v mode p) c ps = refl
+    value-same (Protect v mode p m) c ps = refl
+    value-same (Config v mode g x) c ps = refl
+    value-same (Secure v mode l x) c ps = refl
+    value-same (Flush v mode) c ps = refl
+    value-same (Rreg v mode g r) c ps =
+        let low : activeOf (vp s (v .0)) < K = maker-low k s (v .0) c in
+        let below : g .0 ≤ activeOf (vp s (v .0)) = ltb-false _ _ search in
+        rw (shape-same, vp-hide) (Visible.register-hide K (E (v .0)) (shape s) (vp s (v .0)) (g .0) r (omega arith))
+    value-same (Wreg v mode g r x) c ps = refl
+    value-same (Tpr v mode class) c ps = refl
+    value-same (Ack v mode) c ps = simp (active-hide, highest-hide)
+    value-same (Int u g n) c ps = simp (shape-same, vp-hide, Visible.enters-same)
+    value-same (Pstat v mode) c ps = simp Same
+    value-same (Vstat v mode) c ps = simp (Same, needs-same)
+    value-same (Caps v mode) c ps = simp Same
+
+    -- An intercept enters the receiver, a level above 0, on the maker's processor.
+    intercepted-hide : (e : Event) (l : ℕ) → Taken s e l → intercepted (hide K E H s) (maker e) l ≡ hide K E H (intercepted s (maker e) l)
+    intercepted-hide e l t = rw (t .made) (unfold intercepted in onVp-hide K E H s (t .v) (λ z p. enter z p l byInterrupt) (is-processor s w (t .v) (lt-leb _ _ (t .inside)))
+        (Visible.enter-hide K (E (t .v)) (shape s) (vp s (t .v)) l byInterrupt (let a = t .above in omega arith) (enabled-level (shape s) (vp s (t .v)) l (enabled-at s (t .v) l (t .enabled)))))
+
+    ruled-hide : (e : Event) → quietMaker K s (maker e) ≡ true → ruled (hide K E H s) e ≡ hideOutcome (ruled s e)
+    unfolding ruled nextFor
+    ruled-hide e c = rw (refusals-same k s e c)
+        (condition-cases s e (λ g. answered (g (Done (rule (hide K E H s) e .value))) (hide K E H s) e ≡ hideOutcome (answered (g (Done (rule s e .value))) s e))
+        (λ ps i. record { answer = Done (value-same e c ps i); next = effect-hide e c ps i })
+        (λ r. refl)
+        (λ l t i. record { answer = Intercept (level l); next = intercepted-hide e l t i }))
+
+  -- A state reached from the start.
+  pub record Reached (s : State) : Type 0 where
+    pub modes : wellModed s ≡ true
+    pub grown : (v l : ℕ) → E v l ≡ true → enabledOn s v l ≡ true
+    pub pages : (p : ℕ) → H p ≡ closed K s p
+
+  pub step-hide : 1 ≤ K → (s : State) → Reached s → (e : Event) → quietMaker K s (maker e) ≡ true → step (hide K E H s) e ≡ hideOutcome (step s e)
+  unfolding step nextFor
+  step-hide k s r e c = rw (formed-hide s (r .modes)) (go (wellFormed s) refl)
+    where
+      go : (b : Bool) → wellFormed s ≡ b → cond b (ruled (hide K E H s) e) (answered (Refused Malformed) (hide K E H s) e) ≡ hideOutcome (cond b (ruled s e) (answered (Refused Malformed) s e))
+      go true w = ruled-hide k s w (r .grown) (r .pages) e c
+      go false w = refl
