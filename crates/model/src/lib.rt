@@ -4,3 +4,4 @@ pub mod answer; // what an event is answered
 pub mod event; // the nineteen events
 pub mod machine; // the state
 pub mod quantity; // level, processor index and page number
+pub mod set; // sets of levels as numbers

@@ -1,0 +1,18 @@
+-- `interrupt::with_bit` meets its contract: one bit ends by bit 64 (`put-whole`). Assumes nothing.
+use mathlib.Core.Path.{_∙_}
+use native.Mathlib.Omega.{arith}
+use Rattle.word.proofs.FieldLaws.{put-whole}
+use borrow.Author.Needs.{needs}
+use Rattle.processor.proofs.interrupt.with_bit.Statement.{statement}
+use Rattle.processor.proofs.interrupt.with_bit.Tie as tie
+
+returns : tie.Need-returns
+returns c = c .put .ensures ∙ put-whole _ 1 _ _ (c .before .fits .word .fits) (omega arith)
+
+pub with-bit-spec : {M : Type 1} → statement M
+with-bit-spec =
+    tie.close
+    (tie.spec
+    (λ c. search needs)
+    (λ c κs. tt)
+    returns)
