@@ -1,0 +1,68 @@
+-- `decimal::extend` meets its contract: each return is a law of `extended`, whose facts follow from the tests.
+-- Assumes nothing.
+use borrow.Author.Needs.{needs}
+use native.Mathlib.Omega.{arith}
+use Rattle.decimal.proofs.Reading.{extended-in, extended-out, extended-zero}
+use Rattle.decimal.proofs.extend.Statement.{statement}
+use Rattle.decimal.proofs.extend.Tie as tie
+
+digit-requires : tie.Need-digit-requires
+digit-requires c κs = search needs
+
+enum-known-last : tie.Need-enum-known-last
+enum-known-last c = search needs
+
+enum-told : tie.Need-enum-told
+enum-told c = search needs
+
+returns : tie.Need-returns
+returns c = rw (← (c .before .before .digit .ensures), c .enum-told .given .1)
+
+returns-2 : tie.Need-returns-2
+returns-2 c =
+    let found = c .before .before in
+    let a = found .before .before .before .args in
+    extended-zero (a .value) (a .byte) _ (found .before .before .digit .ensures) (found .last .given .1) (omega arith)
+
+returns-3 : tie.Need-returns-3
+returns-3 c =
+    let found = c .before .before .before in
+    let a = found .before .before .before .args in
+    extended-out (a .value) (a .byte) _ (found .before .before .digit .ensures) (found .last .given .1) (omega arith) (omega arith)
+
+mul-tens : tie.Need-mul-tens
+mul-tens c = search needs
+
+sub-if3 : tie.Need-sub-if3
+sub-if3 c = search needs
+
+returns-4 : tie.Need-returns-4
+returns-4 c =
+    let found = c .before .before .before .before in
+    let a = found .before .before .before .args in
+    extended-out (a .value) (a .byte) _ (found .before .before .digit .ensures) (found .last .given .1) (omega arith) (omega arith)
+
+add-t7 : tie.Need-add-t7
+add-t7 c = search needs
+
+returns-5 : tie.Need-returns-5
+returns-5 c =
+    let found = c .before .before .before .before in
+    let a = found .before .before .before .args in
+    extended-in (a .value) (a .byte) _ (found .before .before .digit .ensures) (found .last .given .1) (omega arith) (omega arith)
+
+pub extend-spec : {M : Type 1} → statement M
+extend-spec =
+    tie.close
+    (tie.spec
+    digit-requires
+    enum-known-last
+    enum-told
+    returns
+    returns-2
+    returns-3
+    mul-tens
+    sub-if3
+    returns-4
+    add-t7
+    returns-5)

@@ -1,0 +1,85 @@
+-- The theorem that the line of an event says the event, for every event whose numbers are below 2^64, and so for a first line.
+-- Assumes nothing.
+use Prim.Native.Nat.{_+_, _*_, _≤_}
+use mathlib.Core.Bool.{true}
+use mathlib.Core.List.{List, [], _∷_, map}
+use mathlib.Core.Path.{_≡_, refl}
+use borrow.Author.Tests.{le-ltb, leb-true}
+use native.Mathlib.Omega.{arith}
+use lib.Dec.{leb}
+use lib.ListN.{length, length-append}
+use Rattle.decimal.specs.Write.{decimal}
+use Rattle.model.specs.declared.event.Event.{Event}
+use Rattle.model.specs.declared.event.Event.the-variants.{Enpart, Envp, Call, Ret, Read, Write, Fetch, Protect, Config, Secure, Flush, Rreg, Wreg, Tpr, Ack, Int, Pstat, Vstat, Caps}
+use Rattle.model.specs.declared.machine.FirstLine.{FirstLine}
+use Rattle.script.specs.Bytes.{same}
+use Rattle.script.specs.Events.{events, lineEvent}
+use Rattle.script.specs.First.{lineFirst, vsm}
+use Rattle.script.specs.Lines.{Form, among, said}
+use Rattle.script.specs.Texts.{Numbers, Text, eventLine, eventText, firstLineOf, firstText, parted, written}
+use Rattle.script.specs.declared.Parsed.the-variants as parsed
+use Rattle.script.specs.declared.Start.the-variants as start
+use Rattle.script.proofs.Parted.{fields-of, noTab, numbers-read, parted-length}
+
+-- What a text has for its line to say `value`: no tab in its word, at most 151 bytes, and a form that is found by the word.
+pub record Sound {A R : Type 0} (good : A → R) (bad : R) (forms : List (Form A)) (text : Text A) (value : A) : Type 0 where
+  pub no-tab : noTab (text .form .word) ≡ true
+  pub short : leb (length (text .form .word) + 21 * length (text .numbers)) 151 ≡ true
+  pub found : among good bad forms (text .form .word) (length (text .numbers)) (text .numbers) ≡ good value
+
+module _ {A R : Type 0} {good : A → R} {bad : R} {forms : List (Form A)} {text : Text A} {value : A} (s : Sound good bad forms text value) where
+  line-at-most : length (written text) ≤ 151
+  unfolding written
+  line-at-most =
+      omega (
+        arith,
+        leb-true (length (text .form .word) + 21 * length (text .numbers)) 151 (s .short),
+        parted-length (text .numbers),
+        length-append (text .form .word) (parted (map decimal (text .numbers))),
+      )
+
+  line-says : Numbers (text .numbers) → said good bad forms (written text) ≡ good value
+  unfolding said written
+  line-says fit =
+      rw (le-ltb 256 (length (written text)) (omega (arith, line-at-most)), fields-of (text .form .word) (text .numbers) (s .no-tab), numbers-read (text .numbers) fit)
+      (s .found)
+
+-- Each event has a sound text.
+sound : (e : Event) → Sound parsed.Event parsed.Malformed events (eventText e) e
+unfolding eventText among same
+sound (Enpart v mode t mbec) = record { no-tab = refl; short = refl; found = refl }
+sound (Envp v mode w t rip rsp cr0) = record { no-tab = refl; short = refl; found = refl }
+sound (Call v mode len) = record { no-tab = refl; short = refl; found = refl }
+sound (Ret v mode len) = record { no-tab = refl; short = refl; found = refl }
+sound (Read v mode p) = record { no-tab = refl; short = refl; found = refl }
+sound (Write v mode p x) = record { no-tab = refl; short = refl; found = refl }
+sound (Fetch v mode p) = record { no-tab = refl; short = refl; found = refl }
+sound (Protect v mode p mask) = record { no-tab = refl; short = refl; found = refl }
+sound (Config v mode g word) = record { no-tab = refl; short = refl; found = refl }
+sound (Secure v mode l word) = record { no-tab = refl; short = refl; found = refl }
+sound (Flush v mode) = record { no-tab = refl; short = refl; found = refl }
+sound (Rreg v mode g r) = record { no-tab = refl; short = refl; found = refl }
+sound (Wreg v mode g r x) = record { no-tab = refl; short = refl; found = refl }
+sound (Tpr v mode class) = record { no-tab = refl; short = refl; found = refl }
+sound (Ack v mode) = record { no-tab = refl; short = refl; found = refl }
+sound (Int w g vector) = record { no-tab = refl; short = refl; found = refl }
+sound (Pstat v mode) = record { no-tab = refl; short = refl; found = refl }
+sound (Vstat v mode) = record { no-tab = refl; short = refl; found = refl }
+sound (Caps v mode) = record { no-tab = refl; short = refl; found = refl }
+
+-- The line of an event says the event, where its numbers are below 2^64.
+pub event-round-trip : (e : Event) → Numbers (eventText e .numbers) → lineEvent (eventLine e) ≡ parsed.Event e
+unfolding lineEvent eventLine
+event-round-trip e fit = line-says (sound e) fit
+
+-- It has at most 151 bytes.
+pub event-at-most : (e : Event) → length (eventLine e) ≤ 151
+unfolding eventLine
+event-at-most e = line-at-most (sound e)
+
+-- The same of a first line.
+pub first-round-trip : (first : FirstLine) → Numbers (firstText first .numbers) → lineFirst (firstLineOf first) ≡ start.First first
+unfolding lineFirst firstLineOf firstText among same
+first-round-trip first fit =
+    let s : Sound start.First start.Malformed (vsm ∷ []) (firstText first) first = record { no-tab = refl; short = refl; found = refl } in
+    line-says s fit

@@ -1,0 +1,9 @@
+-- The definitions of a script's lines and of a listing's lines (01, "Script and listing").
+-- Assumes nothing.
+pub mod Bytes  -- words as bytes
+pub mod Lines  -- the fields of a line, and what a line of a known form says
+pub mod Events  -- the nineteen events, and what a later line says
+pub mod First  -- what the first line says
+pub mod Texts  -- the line of an event, and of a first line
+pub mod Rows  -- how the code finds and holds the numbers of a line
+pub mod Listing  -- a line of the listing
