@@ -3,3 +3,4 @@ pub mod Parts  -- events on a processor's record, decided from the parts that th
 pub mod Levels  -- events on the partition's levels
 pub mod Access  -- accesses
 pub mod Status  -- events that only answer
+pub mod Formed  -- well-formed states, place by place

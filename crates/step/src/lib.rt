@@ -1,6 +1,8 @@
 // One event: its answer and the next state.
 pub mod access_events; // read, write, fetch
 pub mod answers; // the answer that conditions give
+pub mod formed; // well-formed states
+pub mod fresh; // the machine of a first line
 pub mod level_events; // enpart, protect, config
 pub mod scope; // what an event is decided from
 pub mod status_events; // flush, pstat, vstat, caps
