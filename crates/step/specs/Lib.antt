@@ -4,3 +4,4 @@ pub mod Levels  -- events on the partition's levels
 pub mod Access  -- accesses
 pub mod Status  -- events that only answer
 pub mod Formed  -- well-formed states, place by place
+pub mod Start  -- what a first line is answered

@@ -1,6 +1,9 @@
 // The machine that a first line describes (01, "The bench model"), and what a first line may say.
 ghost use mathlib.Core.Path.{_≡_};
+ghost use Rattle.step.specs.Start.{startOf};
 ghost use Rattle.model.specs.Fresh.{admissible, freshContext, freshVp, freshLevel, fresh};
+use model::answer::Answer;
+use model::answer::Refusal;
 use model::machine::Context;
 use model::machine::Control;
 use model::machine::FirstLine;
@@ -10,6 +13,12 @@ use model::machine::Shape;
 use model::machine::VirtualProcessor;
 use model::quantity::Level;
 use partition::mask::valid_mask;
+
+// What a first line is answered, and the machine that it describes.
+pub struct Started {
+    pub answer: Answer,
+    pub machine: Machine,
+}
 
 // Are all numbers of a first line in range, and is its host mask valid?
 pub fn admissible(f: FirstLine) -> bool
@@ -84,5 +93,22 @@ pub fn fresh(f: FirstLine) -> Machine
         levels: [on, off, off, off],
         masks: [15; 256],
         vps: [vp; 4],
+    }
+}
+
+// The machine of a first line, or the refusal.
+pub fn start(f: FirstLine) -> Started
+    ensures { λ r. ⌜ r ≡ startOf f ⌝ }
+{
+    let machine = fresh(f);
+    if admissible(f) {
+        return Started {
+            answer: Answer::Done(0),
+            machine,
+        };
+    }
+    Started {
+        answer: Answer::Refused(Refusal::Malformed),
+        machine,
     }
 }
