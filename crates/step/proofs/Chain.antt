@@ -13,7 +13,8 @@ use Rattle.model.specs.Answers.{firstOf}
 use Rattle.model.specs.State.{State, vp}
 use Rattle.model.specs.Step.{rule, nextFor, ruled}
 use Rattle.model.specs.Updates.{putVp}
-use Rattle.step.specs.Parts.{chosen, settled, changedVp, vpOutcome}
+use Rattle.step.specs.Conditions.{ifDone}
+use Rattle.step.specs.Parts.{settled, vpOutcome}
 
 -- Two conditions side by side with one answer are one.
 pub merge : (a b : Bool) (x y : Answer) → cond a x (cond b x y) ≡ cond (a || b) x y
@@ -46,8 +47,8 @@ first-settles (c ∷ cs) x h =
 
 -- An event whose answer and effect are those of a step on the record of processor v has the outcome of that step.
 module _ (s : State) (e : Event) (v : ℕ) (new : VirtualProcessor) where
-  next-settled : (a : Answer) → settles a ≡ true → rule s e .effect ≡ putVp s v new → nextFor a s e ≡ changedVp a s v (chosen a new (vp s v))
-  unfolding nextFor changedVp chosen
+  next-settled : (a : Answer) → settles a ≡ true → rule s e .effect ≡ putVp s v new → nextFor a s e ≡ ifDone a (putVp s v (ifDone a new (vp s v))) s
+  unfolding nextFor
   next-settled (Done x) h f = f
   next-settled (Refused r) h f = refl
   next-settled (Intercept l) h f = absurd (false≢true h)

@@ -6,7 +6,7 @@ use Prim.Native.Nat.{ℕ}
 use lib.Dec.{leb, ltb, eqb}
 use Rattle.word.specs.Field.{bit}
 use Rattle.model.specs.declared.answer.Answer.{Answer}
-use Rattle.model.specs.declared.answer.Answer.the-variants.{Done, Refused, Intercept}
+use Rattle.model.specs.declared.answer.Answer.the-variants.{Done}
 use Rattle.model.specs.declared.answer.Refusal.the-variants.{Malformed, UndefinedOpcode, InvalidLevel, NotPermitted, AlreadyEnabled, NotEnabled, NoInterrupt}
 use Rattle.model.specs.declared.machine.VirtualProcessor.{VirtualProcessor}
 use Rattle.model.specs.Answers.{firstOf, _when_}
@@ -19,6 +19,7 @@ use Rattle.model.specs.Step.{Outcome}
 use Rattle.model.specs.Updates.{setRegister, setTpr, setSecure, putVp}
 use Rattle.step.specs.declared.scope.Scope.{Scope}
 use Rattle.step.specs.declared.scope.VpStep.{VpStep}
+use Rattle.step.specs.Conditions.{ifDone}
 
 -- The scope of an event that processor v makes in a state.
 abbrev pub scopeOf : State → ℕ → Scope
@@ -31,23 +32,13 @@ scopeOf s v = record {
   mbec = bits 4 (λ l. mbecFor s l);
 }
 
--- The new record where the event is done, else the old one.
-unfoldable pub chosen : Answer → VirtualProcessor → VirtualProcessor → VirtualProcessor
-chosen (Done x) new old = new
-chosen (Refused r) new old = old
-chosen (Intercept l) new old = old
-
+-- The record changes only where the event is done.
 abbrev pub settled : Answer → VirtualProcessor → VirtualProcessor → VpStep
-settled a new old = record { answer = a; vp = chosen a new old }
+settled a new old = record { answer = a; vp = ifDone a new old }
 
--- The next state where the event is done, its record put back at processor v; else the old one. With the answer, an outcome.
-unfoldable pub changedVp : Answer → State → ℕ → VirtualProcessor → State
-changedVp (Done x) s v p = putVp s v p
-changedVp (Refused r) s v p = s
-changedVp (Intercept l) s v p = s
-
+-- With the record put back at processor v, an outcome.
 abbrev pub vpOutcome : State → ℕ → VpStep → Outcome
-vpOutcome s v r = record { answer = r .answer; next = changedVp (r .answer) s v (r .vp) }
+vpOutcome s v r = record { answer = r .answer; next = ifDone (r .answer) (putVp s v (r .vp)) s }
 
 -- Processor v is not there, or the mode is neither 0 nor 1.
 abbrev pub unmade : Scope → ℕ → ℕ → Bool

@@ -1,4 +1,4 @@
-// One event: its answer and the next state.
+// The events, each decided from the parts of the state that it reads; well-formed states; and the machine of a first line.
 pub mod access_events; // read, write, fetch
 pub mod answers; // the answer that conditions give
 pub mod formed; // well-formed states

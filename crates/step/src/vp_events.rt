@@ -13,6 +13,7 @@ use model::answer::Refusal;
 use model::machine::VirtualProcessor;
 use model::quantity::Level;
 use model::quantity::Processor;
+use partition::config::secure_reserved_set;
 use processor::context::context_at;
 use processor::context::enabled_at;
 use processor::entry::called;
@@ -31,7 +32,6 @@ use processor::register::set_register;
 use processor::register::shared_of;
 use processor::secure::set_secure;
 use word::field::has_bit;
-use word::field::take;
 
 // A refusal: the record stays as it is.
 fn refused(r: Refusal, p: VirtualProcessor) -> VpStep
@@ -96,7 +96,7 @@ pub fn ret(c: Scope, p: VirtualProcessor, v: Processor, mode: u64, length: u64) 
 pub fn secure(c: Scope, p: VirtualProcessor, v: Processor, mode: u64, l: Level, word: u64) -> VpStep
     ensures { λ r. ⌜ r ≡ secureIn c p (v .0) mode (l .0) word ⌝ }
 {
-    let malformed = is_unmade(c, v, mode) | (15 < l.0) | !(take(word, 2, 62) == 0);
+    let malformed = is_unmade(c, v, mode) | (15 < l.0) | secure_reserved_set(word);
     if malformed {
         return refused(Refusal::Malformed, p);
     }
