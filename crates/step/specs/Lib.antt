@@ -1,7 +1,2 @@
-pub mod Conditions  -- the answer that conditions give
-pub mod Parts  -- events on a processor's record, decided from the parts that they read
-pub mod Levels  -- events on the partition's levels
-pub mod Access  -- accesses
-pub mod Status  -- events that only answer
 pub mod Formed  -- well-formed states, place by place
 pub mod Start  -- what a first line is answered

@@ -1,9 +1,3 @@
-// The events, each decided from the parts of the state that it reads; well-formed states; and the machine of a first line.
-pub mod access_events; // read, write, fetch
-pub mod answers; // the answer that conditions give
+// A whole machine: is it well formed, and the machine of a first line.
 pub mod formed; // well-formed states
 pub mod fresh; // the machine of a first line
-pub mod level_events; // enpart, protect, config
-pub mod scope; // what an event is decided from
-pub mod status_events; // flush, pstat, vstat, caps
-pub mod vp_events; // call, ret, secure, rreg, wreg, tpr, ack, envp, int

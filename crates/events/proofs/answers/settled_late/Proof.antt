@@ -1,0 +1,36 @@
+-- `settled_late` meets its contract: the tests are made in the order of the list. Assumes nothing.
+use Rattle.model.specs.Answers.{firstOf}
+use Rattle.events.specs.Conditions.{settledLate}
+use Rattle.events.proofs.answers.settled_late.Statement.{statement}
+use Rattle.events.proofs.answers.settled_late.Tie as tie
+
+returns : tie.Need-returns
+unfolding settledLate firstOf
+returns c = rw (c .if1 .taken)
+
+returns-2 : tie.Need-returns-2
+unfolding settledLate firstOf
+returns-2 c = rw (c .before .if1 .left, c .if2 .taken)
+
+returns-3 : tie.Need-returns-3
+unfolding settledLate firstOf
+returns-3 c = rw (c .before .before .if1 .left, c .before .if2 .left, c .if3 .taken)
+
+returns-4 : tie.Need-returns-4
+unfolding settledLate firstOf
+returns-4 c = rw (c .before .before .before .if1 .left, c .before .before .if2 .left, c .before .if3 .left, c .if4 .taken)
+
+returns-5 : tie.Need-returns-5
+unfolding settledLate firstOf
+returns-5 c = rw (c .before .before .before .before .if1 .left, c .before .before .before .if2 .left, c .before .before .if3 .left, c .before .if4 .left, c .if5 .taken)
+
+returns-6 : tie.Need-returns-6
+unfolding settledLate firstOf
+returns-6 c = rw (c .before .before .before .before .before .if1 .left, c .before .before .before .before .if2 .left, c .before .before .before .if3 .left, c .before .before .if4 .left, c .before .if5 .left, c .if6 .taken)
+
+returns-7 : tie.Need-returns-7
+unfolding settledLate firstOf
+returns-7 c = rw (c .before .before .before .before .before .if1 .left, c .before .before .before .before .if2 .left, c .before .before .before .if3 .left, c .before .before .if4 .left, c .before .if5 .left, c .if6 .left)
+
+pub settled-late-spec : {M : Type 1} → statement M
+settled-late-spec = tie.close (tie.spec returns returns-2 returns-3 returns-4 returns-5 returns-6 returns-7)

@@ -1,0 +1,15 @@
+-- `enpart_answer` meets its contract: its conditions are those of the list. Assumes nothing.
+use Rattle.model.specs.Answers.{firstOf}
+use Rattle.model.specs.State.{top}
+use Rattle.events.specs.Conditions.{settledBy, settledLate}
+use Rattle.events.specs.Levels.{enpartAnswer}
+use Rattle.events.proofs.level_events.enpart_answer.Statement.{statement}
+use Rattle.events.proofs.level_events.enpart_answer.Tie as tie
+
+returns : tie.Need-returns
+unfolding enpartAnswer settledBy settledLate firstOf top
+returns c =
+    rw (c .settled .ensures, c .before .in-set .ensures, c .before .before .before .before .basic-conditions .ensures, c .before .before .before .before .before .is-unmade .ensures)
+
+pub enpart-answer-spec : {M : Type 1} → statement M
+enpart-answer-spec = tie.close (tie.spec (λ c κs. tt) (λ c κs. tt) (λ c κs. tt) (λ c κs. tt) returns)

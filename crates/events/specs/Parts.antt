@@ -1,0 +1,138 @@
+-- Each event decided from the parts of the state that it reads: the scope, and the record that it changes. The conditions are those
+-- of the model's rules, those with one answer joined; proofs/ shows that the answers and effects are the model's. Assumes nothing.
+use mathlib.Core.Bool.{Bool, not, cond, _&&_, _||_}
+use mathlib.Core.List.{List, [], _∷_}
+use Prim.Native.Nat.{ℕ}
+use lib.Dec.{leb, ltb, eqb}
+use Rattle.word.specs.Field.{bit}
+use Rattle.model.specs.declared.answer.Answer.{Answer}
+use Rattle.model.specs.declared.answer.Answer.the-variants.{Done}
+use Rattle.model.specs.declared.answer.Refusal.the-variants.{Malformed, UndefinedOpcode, InvalidLevel, NotPermitted, AlreadyEnabled, NotEnabled, NoInterrupt}
+use Rattle.model.specs.declared.machine.VirtualProcessor.{VirtualProcessor}
+use Rattle.model.specs.Answers.{firstOf, _when_}
+use Rattle.model.specs.Bounded.{bits}
+use Rattle.model.specs.Entry.{highestReady, nextUp, called, returned, enters, interrupted, started, acknowledged}
+use Rattle.model.specs.Masks.{secureReservedSet}
+use Rattle.model.specs.Registers.{cr0, rflags, rcx, protectedBit, interruptBit, privateOf, sharedOf, registerOf}
+use Rattle.model.specs.State.{State, processors, pages, shape, top, context, activeOf, active, enabledAt, enabledFor, mbecFor, mbecBit}
+use Rattle.model.specs.Step.{Outcome}
+use Rattle.model.specs.Updates.{setRegister, setTpr, setSecure, putVp}
+use Rattle.events.specs.declared.scope.Scope.{Scope}
+use Rattle.events.specs.declared.scope.VpStep.{VpStep}
+use Rattle.events.specs.Conditions.{ifDone}
+
+-- The scope of an event that processor v makes in a state.
+abbrev pub scopeOf : State → ℕ → Scope
+scopeOf s v = record {
+  shape = shape s;
+  processors = processors s;
+  pages = pages s;
+  actor = active s v;
+  enabled = bits 4 (λ l. enabledFor s l);
+  mbec = bits 4 (λ l. mbecFor s l);
+}
+
+-- The record changes only where the event is done.
+abbrev pub settled : Answer → VirtualProcessor → VirtualProcessor → VpStep
+settled a new old = record { answer = a; vp = ifDone a new old }
+
+-- With the record put back at processor v, an outcome.
+abbrev pub vpOutcome : State → ℕ → VpStep → Outcome
+vpOutcome s v r = record { answer = r .answer; next = ifDone (r .answer) (putVp s v (r .vp)) s }
+
+-- Processor v is not there, or the mode is neither 0 nor 1.
+abbrev pub unmade : Scope → ℕ → ℕ → Bool
+unmade c v mode = leb (c .processors) v || ltb 1 mode
+
+abbrev pub badLength : ℕ → Bool
+badLength len = eqb len 0 || ltb 15 len
+
+-- Events on the maker's own record p.
+abbrev pub callAnswer : Scope → VirtualProcessor → ℕ → ℕ → ℕ → Answer
+callAnswer c p v mode len = firstOf (
+    Malformed when (unmade c v mode || badLength len)
+    ∷ UndefinedOpcode when (eqb mode 1 || not (bit (privateOf (c .shape) p (activeOf p) cr0) protectedBit) || not (eqb (sharedOf p rcx) 0) || eqb (nextUp (c .shape) p) 4)
+    ∷ []) (Done (nextUp (c .shape) p))
+
+unfoldable pub callIn : Scope → VirtualProcessor → ℕ → ℕ → ℕ → VpStep
+callIn c p v mode len = settled (callAnswer c p v mode len) (called (c .shape) p len) p
+
+abbrev pub retAnswer : Scope → VirtualProcessor → ℕ → ℕ → ℕ → Answer
+retAnswer c p v mode len = firstOf (
+    Malformed when (unmade c v mode || badLength len)
+    ∷ UndefinedOpcode when (eqb mode 1 || eqb (activeOf p) 0 || ltb 1 (sharedOf p rcx))
+    ∷ []) (Done (activeOf (returned (c .shape) p len)))
+
+unfoldable pub retIn : Scope → VirtualProcessor → ℕ → ℕ → ℕ → VpStep
+retIn c p v mode len = settled (retAnswer c p v mode len) (returned (c .shape) p len) p
+
+abbrev pub secureAnswer : Scope → VirtualProcessor → ℕ → ℕ → ℕ → ℕ → Answer
+secureAnswer c p v mode l w = firstOf (
+    Malformed when (unmade c v mode || ltb 15 l || secureReservedSet w)
+    ∷ UndefinedOpcode when eqb mode 1
+    ∷ InvalidLevel when ltb (top (c .shape)) l
+    ∷ NotPermitted when leb (activeOf p) l
+    ∷ NotEnabled when (not (enabledAt (c .shape) p l) || (bit w mbecBit && not (bit (c .mbec) (activeOf p))))
+    ∷ []) (Done 0)
+
+unfoldable pub secureIn : Scope → VirtualProcessor → ℕ → ℕ → ℕ → ℕ → VpStep
+secureIn c p v mode l w = settled (secureAnswer c p v mode l w) (setSecure (c .shape) p (activeOf p) l w) p
+
+-- The level of a register that is read or written.
+abbrev pub ofLevelIn : Scope → VirtualProcessor → ℕ → ℕ → List (Answer × Bool)
+ofLevelIn c p mode g =
+    UndefinedOpcode when eqb mode 1
+    ∷ InvalidLevel when ltb (top (c .shape)) g
+    ∷ NotPermitted when ltb (activeOf p) g
+    ∷ NotEnabled when not (enabledAt (c .shape) p g)
+    ∷ []
+
+unfoldable pub rregIn : Scope → VirtualProcessor → ℕ → ℕ → ℕ → ℕ → Answer
+rregIn c p v mode g r = firstOf (Malformed when (unmade c v mode || ltb 15 g || ltb 31 r) ∷ ofLevelIn c p mode g) (Done (registerOf (c .shape) p g r))
+
+abbrev pub wregAnswer : Scope → VirtualProcessor → ℕ → ℕ → ℕ → ℕ → ℕ → Answer
+wregAnswer c p v mode g r x = firstOf (
+    Malformed when (unmade c v mode || ltb 15 g || ltb 31 r || (eqb r cr0 && ltb 0 g && not (bit x protectedBit))) ∷ ofLevelIn c p mode g) (Done 0)
+
+unfoldable pub wregIn : Scope → VirtualProcessor → ℕ → ℕ → ℕ → ℕ → ℕ → VpStep
+wregIn c p v mode g r x = settled (wregAnswer c p v mode g r x) (setRegister (c .shape) p g r x) p
+
+abbrev pub tprAnswer : Scope → ℕ → ℕ → ℕ → Answer
+tprAnswer c v mode class = firstOf (Malformed when (unmade c v mode || ltb 15 class) ∷ UndefinedOpcode when eqb mode 1 ∷ []) (Done 0)
+
+unfoldable pub tprIn : Scope → VirtualProcessor → ℕ → ℕ → ℕ → VpStep
+tprIn c p v mode class = settled (tprAnswer c v mode class) (setTpr (c .shape) p (activeOf p) class) p
+
+abbrev pub ackAnswer : Scope → VirtualProcessor → ℕ → ℕ → Answer
+ackAnswer c p v mode = let n = highestReady (context (c .shape) p (activeOf p)) in firstOf (
+    Malformed when unmade c v mode
+    ∷ UndefinedOpcode when eqb mode 1
+    ∷ NoInterrupt when (eqb n 0 || not (bit (privateOf (c .shape) p (activeOf p) rflags) interruptBit))
+    ∷ []) (Done n)
+
+unfoldable pub ackIn : Scope → VirtualProcessor → ℕ → ℕ → VpStep
+ackIn c p v mode = settled (ackAnswer c p v mode) (acknowledged (c .shape) p) p
+
+-- Events on the record p of another processor w.
+abbrev pub envpAnswer : Scope → VirtualProcessor → ℕ → ℕ → ℕ → ℕ → ℕ → Answer
+envpAnswer c p v mode w t cr = firstOf (
+    Malformed when (unmade c v mode || leb (c .processors) w || ltb 15 t || not (bit cr protectedBit))
+    ∷ UndefinedOpcode when eqb mode 1
+    ∷ InvalidLevel when (eqb t 0 || ltb (top (c .shape)) t)
+    ∷ NotPermitted when leb t (c .actor)
+    ∷ AlreadyEnabled when enabledAt (c .shape) p t
+    ∷ NotEnabled when not (bit (c .enabled) t)
+    ∷ []) (Done 0)
+
+unfoldable pub envpIn : Scope → VirtualProcessor → ℕ → ℕ → ℕ → ℕ → ℕ → ℕ → ℕ → VpStep
+envpIn c p v mode w t ip sp cr = settled (envpAnswer c p v mode w t cr) (started (c .shape) p t ip sp cr) p
+
+abbrev pub intAnswer : Scope → VirtualProcessor → ℕ → ℕ → ℕ → Answer
+intAnswer c p w g n = firstOf (
+    Malformed when (leb (c .processors) w || ltb 15 g || ltb n 16 || ltb 255 n)
+    ∷ InvalidLevel when ltb (top (c .shape)) g
+    ∷ NotEnabled when not (enabledAt (c .shape) p g)
+    ∷ []) (Done (cond (enters (c .shape) p g n) 1 0))
+
+unfoldable pub intIn : Scope → VirtualProcessor → ℕ → ℕ → ℕ → VpStep
+intIn c p w g n = settled (intAnswer c p w g n) (interrupted (c .shape) p g n) p
