@@ -1,2 +1,4 @@
 pub mod Formed  -- well-formed states, place by place
 pub mod Start  -- what a first line is answered
+pub mod Request  -- events by what they change
+pub mod Stepped  -- what a step leaves
