@@ -4,6 +4,7 @@ use model::machine::Machine;
 
 pub mod formed; // well-formed states
 pub mod fresh; // the machine of a first line
+pub mod operation; // operations on parts of a machine
 pub mod request; // events by what they change
 
 // What an event is answered, and the machine after it.

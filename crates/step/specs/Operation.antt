@@ -1,0 +1,81 @@
+-- Each kind of operation on the parts that it is given: the definitions of the events, by operation. proofs/Requests.antt shows that
+-- they give what the rule of each event gives. Assumes nothing.
+use mathlib.Core.Bool.{Bool, _&&_}
+use mathlib.Core.List.{List}
+use Prim.Native.Nat.{ℕ, _+_, _*_}
+use lib.Dec.{ltb}
+use Rattle.word.specs.Field.{bit}
+use Rattle.model.specs.declared.answer.Answer.{Answer}
+use Rattle.model.specs.declared.machine.PartitionLevel.{PartitionLevel}
+use Rattle.model.specs.declared.machine.Shape.{Shape}
+use Rattle.model.specs.declared.machine.VirtualProcessor.{VirtualProcessor}
+use Rattle.model.specs.declared.quantity.Access.{Access}
+use Rattle.model.specs.declared.quantity.Access.the-variants.{Read, Write, Fetch}
+use Rattle.model.specs.Arrays.{stored}
+use Rattle.model.specs.Bounded.{bits}
+use Rattle.model.specs.State.{isLevel, enabledAt, secureOf, mbecBit}
+use Rattle.partition.specs.Parts.{enabledIn, mbecIn}
+use Rattle.events.specs.declared.scope.Scope.{Scope}
+use Rattle.events.specs.declared.scope.VpStep.{VpStep}
+use Rattle.events.specs.Levels.{enpartAnswer, enpartLevels, protectAnswer, configAnswer, configLevels, configMasks}
+use Rattle.events.specs.Parts.{callIn, retIn, secureIn, rregIn, wregIn, tprIn, ackIn, envpIn, intIn}
+use Rattle.events.specs.Status.{flushAnswer, statusAnswer, partitionWord, processorWord, capabilityWord}
+use Rattle.step.specs.declared.request.LevelOperation.{LevelOperation}
+use Rattle.step.specs.declared.request.LevelOperation.the-variants.{Enpart, Protect, Config}
+use Rattle.step.specs.declared.request.ProcessorOperation.{ProcessorOperation}
+use Rattle.step.specs.declared.request.ProcessorOperation.the-variants.{Envp, Call, Ret, Secure, Wreg, Tpr, Ack, Int}
+use Rattle.step.specs.declared.request.Query.{Query}
+use Rattle.step.specs.declared.request.Query.the-variants.{Flush, Rreg, Pstat, Vstat, Caps}
+
+-- The scope, from the parts of a machine and the actor.
+abbrev pub scopeIn : Shape → ℕ → ℕ → List PartitionLevel → ℕ → Scope
+scopeIn z processors pages xs actor = record {
+  shape = z;
+  processors = processors;
+  pages = pages;
+  actor = actor;
+  enabled = bits 4 (λ l. enabledIn z xs l);
+  mbec = bits 4 (λ l. mbecIn z xs l);
+}
+
+-- On the record p of processor w.
+abbrev pub onProcessor : Scope → VirtualProcessor → ℕ → ℕ → ℕ → ProcessorOperation → VpStep
+onProcessor c p v mode w (Envp t ip sp cr) = envpIn c p v mode w (t .0) ip sp cr
+onProcessor c p v mode w (Call len) = callIn c p v mode len
+onProcessor c p v mode w (Ret len) = retIn c p v mode len
+onProcessor c p v mode w (Secure l word) = secureIn c p v mode (l .0) word
+onProcessor c p v mode w (Wreg g r x) = wregIn c p v mode (g .0) r x
+onProcessor c p v mode w (Tpr class) = tprIn c p v mode class
+onProcessor c p v mode w Ack = ackIn c p v mode
+onProcessor c p v mode w (Int g n) = intIn c p w (g .0) n
+
+-- On the levels' records xs and the masks ks: the answer, and both where it is done.
+abbrev pub levelAnswer : Scope → List PartitionLevel → ℕ → ℕ → LevelOperation → Answer
+levelAnswer c xs v mode (Enpart t mbec) = enpartAnswer c v mode (t .0) mbec
+levelAnswer c xs v mode (Protect p k) = protectAnswer c xs v mode (p .0) k
+levelAnswer c xs v mode (Config g w) = configAnswer c xs v mode (g .0) w
+
+abbrev pub levelRecords : Scope → List PartitionLevel → LevelOperation → List PartitionLevel
+levelRecords c xs (Enpart t mbec) = enpartLevels c xs (t .0) mbec
+levelRecords c xs (Protect p k) = xs
+levelRecords c xs (Config g w) = configLevels c xs (g .0) w
+
+abbrev pub levelMasks : Scope → List PartitionLevel → LevelOperation → List ℕ → List ℕ
+levelMasks c xs (Enpart t mbec) ks = ks
+levelMasks c xs (Protect p k) ks = stored 256 ks (4 * p .0 + c .actor) k
+levelMasks c xs (Config g w) ks = configMasks c xs (g .0) w ks
+
+-- On a page: the value of an access that is done, with the page's word.
+abbrev pub accessValue : Access → ℕ → ℕ
+accessValue Read word = word
+accessValue Write word = 0
+accessValue Fetch word = 0
+
+-- On nothing: the answer, with the record p of the maker's processor.
+abbrev pub queryAnswer : Scope → VirtualProcessor → Bool → ℕ → ℕ → Query → Answer
+queryAnswer c p locked v mode Flush = flushAnswer c locked v mode
+queryAnswer c p locked v mode (Rreg g r) = rregIn c p v mode (g .0) r
+queryAnswer c p locked v mode Pstat = statusAnswer c v mode (partitionWord c)
+queryAnswer c p locked v mode Vstat =
+    statusAnswer c v mode (processorWord c (bits 4 (λ t. bit (secureOf (c .shape) p t (c .actor)) mbecBit)) (bits 4 (λ t. enabledAt (c .shape) p t)))
+queryAnswer c p locked v mode Caps = statusAnswer c v mode (capabilityWord c (bits 4 (λ t. ltb 0 t && isLevel (c .shape) t)))
