@@ -1,2 +1,3 @@
 -- The laws that the proofs of src/ share.
 pub mod Places  -- well-formed states: the clauses place by place are the model's
+pub mod Requests  -- the request of an event gives what its rule gives
