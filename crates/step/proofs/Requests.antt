@@ -7,6 +7,9 @@ use mathlib.Core.Option.{some}
 use Prim.Native.Nat.{ℕ, _≤_}
 use native.Mathlib.Omega.{arith}
 use lib.Dec.{leb, ltb}
+use lib.ListN.{getD}
+use borrow.Author.Tests.{lt-ltb}
+use Rattle.word.specs.Field.{bit}
 use Rattle.model.specs.declared.answer.Answer.{Answer}
 use Rattle.model.specs.declared.answer.Answer.the-variants.{Done, Refused, Intercept}
 use Rattle.model.specs.declared.answer.Refusal.the-variants.{Malformed}
@@ -14,11 +17,13 @@ use Rattle.model.specs.declared.event.Event.{Event}
 use Rattle.model.specs.declared.event.Event.the-variants.{Enpart, Envp, Call, Ret, Read, Write, Fetch, Protect, Config, Secure, Flush, Rreg, Wreg, Tpr, Ack, Int, Pstat, Vstat, Caps}
 use Rattle.model.specs.declared.quantity.Access.{Access}
 use Rattle.model.proofs.Bools.{and-not, cond-same}
+use Rattle.model.proofs.Bounded.{any-cong}
 use Rattle.model.proofs.Formed.{is-processor}
 use Rattle.model.specs.Answers.{firstOf, _when_}
-use Rattle.model.specs.Events.{madeOn}
+use Rattle.model.specs.Bounded.{any}
+use Rattle.model.specs.Events.{madeOn, locked}
 use Rattle.model.specs.Memory.{mbecOn}
-use Rattle.model.specs.State.{State, processors, isProcessor, enabledOn}
+use Rattle.model.specs.State.{State, processors, isProcessor, shape, vp, pastVp, noVp, enabledOn, wordOf, secureOf, lockBit}
 use Rattle.model.specs.Step.{rule, maker, intercepted, nextFor, ruled, answered}
 use Rattle.model.specs.Updates.{setMask, putMasks}
 use Rattle.model.specs.WellFormed.{wellFormed}
@@ -26,6 +31,7 @@ use Rattle.events.proofs.Chain.{answerOf, plain, first-settles, settles}
 use Rattle.events.proofs.PartitionJoins.{enpart-answer, protect-answer, config-answer, enpart-effect, config-effect, read-answer, write-answer, fetch-answer, flush-joined, pstat-joined, vstat-joined, caps-joined}
 use Rattle.events.proofs.VpJoins.{call-joined, ret-joined, secure-joined, rreg-joined, wreg-joined, tpr-joined, ack-joined, envp-joined, int-joined}
 use Rattle.events.specs.Conditions.{ifDone}
+use Rattle.step.specs.Operation.{lockedIn}
 use Rattle.step.specs.Outcome.{levelsDone, pageDone, pageNext, pageAnswer, byOperation, outcomeOf}
 use Rattle.step.specs.Request.{requestOf}
 
@@ -54,7 +60,7 @@ module _ (s : State) (e : Event) (v p x : ℕ) (access : Access) where
   paged a q f h = rw (← q, next-page (answerOf s e) f h)
 
 pub by-request : (s : State) (e : Event) → ruled s e ≡ outcomeOf s (requestOf e)
-unfolding rule maker setMask putMasks mbecOn enabledOn
+unfolding rule maker setMask putMasks mbecOn enabledOn wordOf
 by-request s (Enpart v mode t mbec) = plainly s (Enpart v mode t mbec) _ _ refl (enpart-answer s v mode t mbec) (enpart-effect s v mode t mbec)
 by-request s (Envp v mode w t ip sp cr) = envp-joined s v mode w t ip sp cr
 by-request s (Call v mode len) = call-joined s v mode len
@@ -134,3 +140,14 @@ module _ (s : State) (w : wellFormed s ≡ true) where
   unnamed (Pstat v mode) h = first (Pstat v mode) (v .0) _ refl h
   unnamed (Vstat v mode) h = first (Vstat v mode) (v .0) _ refl h
   unnamed (Caps v mode) h = first (Caps v mode) (v .0) _ refl h
+
+-- flush: what is asked of the four places is what is asked of every processor.
+module _ (s : State) where
+  pub locked-of : (l : ℕ) → lockedIn (shape s) (processors s) (s .machine .vps) l ≡ locked s l
+  unfolding lockedIn locked vp isProcessor
+  locked-of l =
+      any-cong 4 _ _ (λ w h. ap (λ b. any 4 (λ t. bit (secureOf (shape s) (cond b (getD (s .machine .vps) w pastVp) noVp) t l) lockBit)) (below (ltb w (processors s)) (ltb w 4) (lt-ltb w 4 h)))
+    where
+      below : (a b : Bool) → b ≡ true → a ≡ (a && b)
+      below true b h = sym h
+      below false b h = refl

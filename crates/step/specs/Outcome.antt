@@ -5,21 +5,19 @@ use Rattle.model.specs.declared.answer.Answer.{Answer}
 use Rattle.model.specs.declared.answer.Answer.the-variants.{Done, Refused, Intercept}
 use Rattle.model.specs.declared.quantity.Access.{Access}
 use Rattle.model.specs.declared.quantity.Access.the-variants.{Read, Write, Fetch}
-use Rattle.model.specs.Bounded.{bits}
 use Rattle.model.specs.Entry.{enter, byInterrupt}
 use Rattle.model.specs.Events.{onVp, locked}
-use Rattle.model.specs.Memory.{mbecOn}
-use Rattle.model.specs.State.{State, vp, active, enabledOn, wordOf}
+use Rattle.model.specs.State.{State, vp, active}
 use Rattle.model.specs.Step.{Outcome}
 use Rattle.model.specs.Updates.{withLevels, withMasks, setWord}
-use Rattle.events.specs.Access.{accessAnswer}
 use Rattle.events.specs.Conditions.{ifDone}
 use Rattle.events.specs.Parts.{scopeOf, vpOutcome}
+use Rattle.events.specs.Status.{flushAnswer}
 use Rattle.step.specs.declared.request.LevelOperation.{LevelOperation}
 use Rattle.step.specs.declared.request.Operation.{Operation}
-use Rattle.step.specs.declared.request.Operation.the-variants.{OnProcessor, OnLevels, OnPage, OnNothing}
+use Rattle.step.specs.declared.request.Operation.the-variants.{OnProcessor, OnLevels, OnPage, Flush, OnNothing}
 use Rattle.step.specs.declared.request.Request.{Request}
-use Rattle.step.specs.Operation.{onProcessor, levelAnswer, levelRecords, levelMasks, accessValue, queryAnswer}
+use Rattle.step.specs.Operation.{onProcessor, levelAnswer, levelRecords, levelMasks, pageIn, queryAnswer}
 
 -- An operation on the levels, where it is done.
 abbrev pub levelsDone : State → ℕ → LevelOperation → State
@@ -33,8 +31,7 @@ levelsDone s v x = record {
 -- An access: its answer, and the state after it.
 abbrev pub pageAnswer : State → ℕ → ℕ → ℕ → Access → Answer
 pageAnswer s v mode p access =
-    accessAnswer (scopeOf s v) (s .machine .levels) (s .machine .masks) (s .machine .«host_mask»)
-    (bits 4 (λ t. mbecOn s v t (active s v))) (bits 4 (λ t. enabledOn s v t)) v mode p access (accessValue access (wordOf s p))
+    pageIn (scopeOf s v) (vp s v) (s .machine .levels) (s .machine .masks) (s .machine .«host_mask») (s .words) v mode p access
 
 abbrev pub pageDone : State → ℕ → Access → ℕ → State
 pageDone s p Read x = s
@@ -53,7 +50,8 @@ byOperation s v mode w (OnLevels x) =
     let a = levelAnswer (scopeOf s v) (s .machine .levels) v mode x in record { answer = a; next = ifDone a (levelsDone s v x) s }
 byOperation s v mode w (OnPage p access x) =
     let a = pageAnswer s v mode (p .0) access in record { answer = a; next = pageNext s v (p .0) access x a }
-byOperation s v mode w (OnNothing x) = record { answer = queryAnswer (scopeOf s v) (vp s v) (locked s (active s v)) v mode x; next = s }
+byOperation s v mode w Flush = record { answer = flushAnswer (scopeOf s v) (locked s (active s v)) v mode; next = s }
+byOperation s v mode w (OnNothing x) = record { answer = queryAnswer (scopeOf s v) (vp s v) v mode x; next = s }
 
 abbrev pub outcomeOf : State → Request → Outcome
 outcomeOf s r = byOperation s (r .maker .0) (r .mode) (r .on .0) (r .operation)

@@ -8,9 +8,9 @@ use Rattle.model.specs.declared.quantity.Access.the-variants.{Read, Write, Fetc
 use Rattle.model.specs.declared.quantity.Processor.{Processor}
 use Rattle.step.specs.declared.request.LevelOperation.the-variants.{Enpart, Protect, Config}
 use Rattle.step.specs.declared.request.Operation.{Operation}
-use Rattle.step.specs.declared.request.Operation.the-variants.{OnProcessor, OnLevels, OnPage, OnNothing}
+use Rattle.step.specs.declared.request.Operation.the-variants.{OnProcessor, OnLevels, OnPage, Flush, OnNothing}
 use Rattle.step.specs.declared.request.ProcessorOperation.the-variants.{Envp, Call, Ret, Secure, Wreg, Tpr, Ack, Int}
-use Rattle.step.specs.declared.request.Query.the-variants.{Flush, Rreg, Pstat, Vstat, Caps}
+use Rattle.step.specs.declared.request.Query.the-variants.{Rreg, Pstat, Vstat, Caps}
 use Rattle.step.specs.declared.request.Request.{Request}
 
 -- What a level asks for on its own processor.
@@ -29,7 +29,7 @@ requestOf (event.Fetch v mode p) = ownRequest v mode (OnPage p Fetch 0)
 requestOf (event.Protect v mode p k) = ownRequest v mode (OnLevels (Protect p k))
 requestOf (event.Config v mode g w) = ownRequest v mode (OnLevels (Config g w))
 requestOf (event.Secure v mode l w) = ownRequest v mode (OnProcessor (Secure l w))
-requestOf (event.Flush v mode) = ownRequest v mode (OnNothing Flush)
+requestOf (event.Flush v mode) = ownRequest v mode Flush
 requestOf (event.Rreg v mode g r) = ownRequest v mode (OnNothing (Rreg g r))
 requestOf (event.Wreg v mode g r x) = ownRequest v mode (OnProcessor (Wreg g r x))
 requestOf (event.Tpr v mode class) = ownRequest v mode (OnProcessor (Tpr class))

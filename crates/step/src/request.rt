@@ -43,9 +43,8 @@ pub enum LevelOperation {
     Config { target: Level, word: u64 },
 }
 
-// Changes nothing.
+// Changes nothing, and is answered from the maker's processor and the levels.
 pub enum Query {
-    Flush,
     Rreg { target: Level, register: u64 },
     Pstat,
     Vstat,
@@ -61,6 +60,8 @@ pub enum Operation {
         access: Access,
         value: u64,
     },
+    // Changes nothing, and asks every processor.
+    Flush,
     OnNothing(Query),
 }
 
@@ -174,7 +175,7 @@ pub fn request_of(e: Event) -> Request
             target,
             word,
         } => own_record(vp, mode, ProcessorOperation::Secure { target, word }),
-        Event::Flush { vp, mode } => own_query(vp, mode, Query::Flush),
+        Event::Flush { vp, mode } => own(vp, mode, Operation::Flush),
         Event::Rreg {
             vp,
             mode,

@@ -36,10 +36,10 @@ returns-10 : tie.Need-returns-10
 returns-10 c = c .own-record3 .ensures ∙ sym (ap requestOf (c .before .before .e10 .given .1))
 
 returns-11 : tie.Need-returns-11
-returns-11 c = c .own-query .ensures ∙ sym (ap requestOf (c .before .before .e11 .given .1))
+returns-11 c = c .own .ensures ∙ sym (ap requestOf (c .before .before .e11 .given .1))
 
 returns-12 : tie.Need-returns-12
-returns-12 c = c .own-query2 .ensures ∙ sym (ap requestOf (c .before .before .e12 .given .1))
+returns-12 c = c .own-query .ensures ∙ sym (ap requestOf (c .before .before .e12 .given .1))
 
 returns-13 : tie.Need-returns-13
 returns-13 c = c .own-record4 .ensures ∙ sym (ap requestOf (c .before .before .e13 .given .1))
@@ -54,13 +54,13 @@ returns-16 : tie.Need-returns-16
 returns-16 c = c .own-record7 .ensures ∙ sym (ap requestOf (c .before .before .e16 .given .1))
 
 returns-17 : tie.Need-returns-17
-returns-17 c = c .own-query3 .ensures ∙ sym (ap requestOf (c .before .before .e17 .given .1))
+returns-17 c = c .own-query2 .ensures ∙ sym (ap requestOf (c .before .before .e17 .given .1))
 
 returns-18 : tie.Need-returns-18
-returns-18 c = c .own-query4 .ensures ∙ sym (ap requestOf (c .before .before .e18 .given .1))
+returns-18 c = c .own-query3 .ensures ∙ sym (ap requestOf (c .before .before .e18 .given .1))
 
 returns-19 : tie.Need-returns-19
-returns-19 c = c .own-query5 .ensures ∙ sym (ap requestOf (c .before .before .e19 .given .1))
+returns-19 c = c .own-query4 .ensures ∙ sym (ap requestOf (c .before .before .e19 .given .1))
 
 pub request-of-spec : {M : Type 1} → statement M
 request-of-spec =
