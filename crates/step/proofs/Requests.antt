@@ -21,18 +21,20 @@ use Rattle.model.proofs.Bounded.{any-cong}
 use Rattle.model.proofs.Formed.{is-processor}
 use Rattle.model.specs.Answers.{firstOf, _when_}
 use Rattle.model.specs.Bounded.{any}
-use Rattle.model.specs.Events.{madeOn, locked}
+use Rattle.model.specs.Events.{onVp, madeOn, locked}
 use Rattle.model.specs.Memory.{mbecOn}
-use Rattle.model.specs.State.{State, processors, isProcessor, shape, vp, pastVp, noVp, enabledOn, wordOf, secureOf, lockBit}
+use Rattle.model.specs.State.{State, processors, isProcessor, shape, vp, active, pastVp, noVp, enabledOn, wordOf, secureOf, lockBit}
 use Rattle.model.specs.Step.{rule, maker, intercepted, nextFor, ruled, answered}
-use Rattle.model.specs.Updates.{setMask, putMasks}
+use Rattle.model.specs.Updates.{setMask, setWord, putMasks}
 use Rattle.model.specs.WellFormed.{wellFormed}
 use Rattle.events.proofs.Chain.{answerOf, plain, first-settles, settles}
 use Rattle.events.proofs.PartitionJoins.{enpart-answer, protect-answer, config-answer, enpart-effect, config-effect, read-answer, write-answer, fetch-answer, flush-joined, pstat-joined, vstat-joined, caps-joined}
 use Rattle.events.proofs.VpJoins.{call-joined, ret-joined, secure-joined, rreg-joined, wreg-joined, tpr-joined, ack-joined, envp-joined, int-joined}
 use Rattle.events.specs.Conditions.{ifDone}
-use Rattle.step.specs.Operation.{lockedIn}
-use Rattle.step.specs.Outcome.{levelsDone, pageDone, pageNext, pageAnswer, byOperation, outcomeOf}
+use Rattle.events.specs.Parts.{scopeOf}
+use Rattle.events.specs.Status.{flushAnswer}
+use Rattle.step.specs.Operation.{wordsDone, lockedIn}
+use Rattle.step.specs.Outcome.{pageNext, outcomeOf}
 use Rattle.step.specs.Request.{requestOf}
 
 -- An event that is refused or done, by its answer and its effect.
@@ -49,18 +51,32 @@ module _ (s : State) (e : Event) (t : State) where
 
 -- An access by processor v, by its answer.
 module _ (s : State) (e : Event) (v p x : ℕ) (access : Access) where
-  next-page : (a : Answer) → rule s e .effect ≡ pageDone s p access x → maker e ≡ some v → nextFor a s e ≡ pageNext s v p access x a
-  unfolding nextFor intercepted
+  abbrev stored : State
+  stored = record { machine = s .machine; words = wordsDone (s .words) p access x }
+
+  next-page : (a : Answer) → rule s e .effect ≡ stored → maker e ≡ some v → nextFor a s e ≡ pageNext s v (vp s v) p access x a
+  unfolding nextFor intercepted onVp
   next-page (Done y) f h = f
   next-page (Refused r) f h = refl
   next-page (Intercept l) f h = ap (λ m. intercepted s m (l .0)) h
 
-  paged : (a : Answer) → answerOf s e ≡ a → rule s e .effect ≡ pageDone s p access x → maker e ≡ some v → ruled s e ≡ record { answer = a; next = pageNext s v p access x a }
+  paged : (a : Answer) → answerOf s e ≡ a → rule s e .effect ≡ stored → maker e ≡ some v → ruled s e ≡ record { answer = a; next = pageNext s v (vp s v) p access x a }
   unfolding ruled
   paged a q f h = rw (← q, next-page (answerOf s e) f h)
 
+-- flush: what is asked of the four places is what is asked of every processor.
+module _ (s : State) where
+  pub locked-of : (l : ℕ) → lockedIn (shape s) (processors s) (s .machine .vps) l ≡ locked s l
+  unfolding lockedIn locked vp isProcessor
+  locked-of l =
+      any-cong 4 _ _ (λ w h. ap (λ b. any 4 (λ t. bit (secureOf (shape s) (cond b (getD (s .machine .vps) w pastVp) noVp) t l) lockBit)) (below (ltb w (processors s)) (ltb w 4) (lt-ltb w 4 h)))
+    where
+      below : (a b : Bool) → b ≡ true → a ≡ (a && b)
+      below true b h = sym h
+      below false b h = refl
+
 pub by-request : (s : State) (e : Event) → ruled s e ≡ outcomeOf s (requestOf e)
-unfolding rule maker setMask putMasks mbecOn enabledOn wordOf
+unfolding rule maker setMask setWord putMasks mbecOn enabledOn wordOf processors shape
 by-request s (Enpart v mode t mbec) = plainly s (Enpart v mode t mbec) _ _ refl (enpart-answer s v mode t mbec) (enpart-effect s v mode t mbec)
 by-request s (Envp v mode w t ip sp cr) = envp-joined s v mode w t ip sp cr
 by-request s (Call v mode len) = call-joined s v mode len
@@ -71,7 +87,7 @@ by-request s (Fetch v mode p) = paged s (Fetch v mode p) (v .0) (p .0) 0 Access.
 by-request s (Protect v mode p k) = plainly s (Protect v mode p k) _ _ refl (protect-answer s v mode p k) refl
 by-request s (Config v mode g w) = plainly s (Config v mode g w) _ _ refl (config-answer s v mode g w) (config-effect s v mode g w)
 by-request s (Secure v mode l w) = secure-joined s v mode l w
-by-request s (Flush v mode) = flush-joined s v mode
+by-request s (Flush v mode) = flush-joined s v mode ∙ ap (λ b. record { answer = flushAnswer (scopeOf s (v .0)) b (v .0) mode; next = s }) (sym (locked-of s (active s (v .0))))
 by-request s (Rreg v mode g r) = rreg-joined s v mode g r
 by-request s (Wreg v mode g r x) = wreg-joined s v mode g r x
 by-request s (Tpr v mode class) = tpr-joined s v mode class
@@ -140,14 +156,3 @@ module _ (s : State) (w : wellFormed s ≡ true) where
   unnamed (Pstat v mode) h = first (Pstat v mode) (v .0) _ refl h
   unnamed (Vstat v mode) h = first (Vstat v mode) (v .0) _ refl h
   unnamed (Caps v mode) h = first (Caps v mode) (v .0) _ refl h
-
--- flush: what is asked of the four places is what is asked of every processor.
-module _ (s : State) where
-  pub locked-of : (l : ℕ) → lockedIn (shape s) (processors s) (s .machine .vps) l ≡ locked s l
-  unfolding lockedIn locked vp isProcessor
-  locked-of l =
-      any-cong 4 _ _ (λ w h. ap (λ b. any 4 (λ t. bit (secureOf (shape s) (cond b (getD (s .machine .vps) w pastVp) noVp) t l) lockBit)) (below (ltb w (processors s)) (ltb w 4) (lt-ltb w 4 h)))
-    where
-      below : (a b : Bool) → b ≡ true → a ≡ (a && b)
-      below true b h = sym h
-      below false b h = refl
