@@ -19,6 +19,7 @@ use model::machine::PartitionLevel;
 use model::quantity::Level;
 use model::quantity::Page;
 use model::quantity::Processor;
+use model::set::in_set;
 use partition::config::default_mask;
 use partition::config::reserved_set;
 use partition::config::turns_on;
@@ -30,7 +31,6 @@ use partition::mask::fill_masks;
 use partition::mask::kernel_only;
 use partition::mask::set_mask;
 use partition::mask::valid_mask;
-use processor::formed::in_set;
 
 // An event on the levels' records: its answer, and the records after it.
 pub struct LevelStep {

@@ -6,5 +6,3 @@ pub mod context; // what a processor holds of a level
 pub mod register; // private and shared registers
 pub mod interrupt; // vectors, pending and ready
 pub mod secure; // secure configuration of lower levels
-pub mod entry; // entry, call, return, and the start of a level
-pub mod formed; // well formed

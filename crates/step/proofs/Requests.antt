@@ -33,9 +33,9 @@ use Rattle.events.proofs.VpJoins.{call-joined, ret-joined, secure-joined, rreg-
 use Rattle.events.specs.Conditions.{ifDone}
 use Rattle.events.specs.Parts.{scopeOf}
 use Rattle.events.specs.Status.{flushAnswer}
-use Rattle.step.specs.Operation.{wordsDone, lockedIn}
+use Rattle.dispatch.specs.Operation.{wordsDone, lockedIn}
 use Rattle.step.specs.Outcome.{pageNext, outcomeOf}
-use Rattle.step.specs.Request.{requestOf}
+use Rattle.dispatch.specs.Request.{requestOf}
 
 -- An event that is refused or done, by its answer and its effect.
 module _ (s : State) (e : Event) (t : State) where

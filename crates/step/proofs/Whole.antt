@@ -27,15 +27,15 @@ use Rattle.events.specs.declared.scope.VpStep.{VpStep}
 use Rattle.events.specs.Conditions.{isDone, ifDone}
 use Rattle.events.specs.Parts.{scopeOf, vpOutcome}
 use Rattle.events.specs.Status.{flushAnswer}
-use Rattle.step.specs.declared.request.LevelOperation.{LevelOperation}
-use Rattle.step.specs.declared.request.Operation.{Operation}
-use Rattle.step.specs.declared.request.Operation.the-variants.{OnProcessor, OnLevels, OnPage, Flush, OnNothing}
-use Rattle.step.specs.declared.request.ProcessorOperation.{ProcessorOperation}
-use Rattle.step.specs.declared.request.Query.{Query}
-use Rattle.step.specs.declared.request.Request.{Request}
-use Rattle.step.specs.Operation.{scopeIn, onProcessor, levelAnswer, wordsDone, lockedIn, queryAnswer}
+use Rattle.dispatch.specs.declared.request.LevelOperation.{LevelOperation}
+use Rattle.dispatch.specs.declared.request.Operation.{Operation}
+use Rattle.dispatch.specs.declared.request.Operation.the-variants.{OnProcessor, OnLevels, OnPage, Flush, OnNothing}
+use Rattle.dispatch.specs.declared.request.ProcessorOperation.{ProcessorOperation}
+use Rattle.dispatch.specs.declared.request.Query.{Query}
+use Rattle.dispatch.specs.declared.request.Request.{Request}
+use Rattle.dispatch.specs.Operation.{scopeIn, onProcessor, levelAnswer, wordsDone, lockedIn, queryAnswer}
 use Rattle.step.specs.Outcome.{pageNext, byOperation, outcomeOf}
-use Rattle.step.specs.Request.{requestOf}
+use Rattle.dispatch.specs.Request.{requestOf}
 use Rattle.step.specs.declared.Stepped.{Stepped}
 use Rattle.step.specs.Stepped.{stateOf, stepped, recordAt, vpStepped, levelStepped, interceptedOn, pageOn}
 use Rattle.step.proofs.Requests.{by-request, unnamed}

@@ -13,11 +13,11 @@ use Rattle.events.specs.declared.scope.Scope.{Scope}
 use Rattle.events.specs.Conditions.{ifDone}
 use Rattle.events.specs.Parts.{scopeOf, vpOutcome}
 use Rattle.events.specs.Status.{flushAnswer}
-use Rattle.step.specs.declared.request.LevelOperation.{LevelOperation}
-use Rattle.step.specs.declared.request.Operation.{Operation}
-use Rattle.step.specs.declared.request.Operation.the-variants.{OnProcessor, OnLevels, OnPage, Flush, OnNothing}
-use Rattle.step.specs.declared.request.Request.{Request}
-use Rattle.step.specs.Operation.{onProcessor, levelAnswer, levelRecords, levelMasks, pageIn, wordsDone, lockedIn, queryAnswer}
+use Rattle.dispatch.specs.declared.request.LevelOperation.{LevelOperation}
+use Rattle.dispatch.specs.declared.request.Operation.{Operation}
+use Rattle.dispatch.specs.declared.request.Operation.the-variants.{OnProcessor, OnLevels, OnPage, Flush, OnNothing}
+use Rattle.dispatch.specs.declared.request.Request.{Request}
+use Rattle.dispatch.specs.Operation.{onProcessor, levelAnswer, levelRecords, levelMasks, pageIn, wordsDone, lockedIn, queryAnswer}
 
 -- An operation on the levels, where it is done.
 abbrev pub levelsDone : State → Scope → LevelOperation → State

@@ -14,9 +14,9 @@ use Rattle.model.specs.Updates.{withVps, withLevels, withMasks}
 use Rattle.events.specs.declared.scope.Scope.{Scope}
 use Rattle.events.specs.declared.scope.VpStep.{VpStep}
 use Rattle.events.specs.Conditions.{ifDone}
-use Rattle.step.specs.declared.request.LevelOperation.{LevelOperation}
+use Rattle.dispatch.specs.declared.request.LevelOperation.{LevelOperation}
 use Rattle.step.specs.declared.Stepped.{Stepped}
-use Rattle.step.specs.Operation.{levelAnswer, levelRecords, levelMasks, pageIn}
+use Rattle.dispatch.specs.Operation.{levelAnswer, levelRecords, levelMasks, pageIn}
 
 -- A machine, and the words that are lent with it.
 abbrev pub stateOf : Machine → List ℕ → State

@@ -1,4 +1,4 @@
-// One event on a whole machine; is a machine well formed; and the machine of a first line.
+// One event on a whole machine (01, "Events").
 ghost use mathlib.Core.Path.{_≡_};
 ghost use mathlib.Core.Bool.{true, _&&_};
 ghost use Prim.Native.Nat.{_<_};
@@ -6,20 +6,20 @@ ghost use lib.Dec.{ltb};
 ghost use Rattle.model.specs.Step.{ruled as ruledOf, step as stepOf};
 ghost use Rattle.model.specs.WellFormed.{wellFormed};
 ghost use Rattle.events.specs.Conditions.{ifDone};
-ghost use Rattle.step.specs.Operation.{onProcessor, wordsDone};
+ghost use Rattle.dispatch.specs.Operation.{onProcessor, wordsDone};
 ghost use Rattle.step.specs.Stepped.{stateOf, stepped, recordAt, vpStepped, levelStepped, interceptedOn, pageOn};
-use crate::formed::well_formed;
-use crate::operation::locked;
-use crate::operation::on_levels;
-use crate::operation::on_page;
-use crate::operation::on_processor;
-use crate::operation::queried;
-use crate::operation::scope;
-use crate::operation::store_word;
-use crate::request::LevelOperation;
-use crate::request::Operation;
-use crate::request::ProcessorOperation;
-use crate::request::request_of;
+use dispatch::operation::locked;
+use dispatch::operation::on_levels;
+use dispatch::operation::on_page;
+use dispatch::operation::on_processor;
+use dispatch::operation::queried;
+use dispatch::operation::scope;
+use dispatch::operation::store_word;
+use dispatch::request::LevelOperation;
+use dispatch::request::Operation;
+use dispatch::request::ProcessorOperation;
+use dispatch::request::request_of;
+use entry::enter;
 use events::answers::is_done;
 use events::scope::Scope;
 use events::status_events::flush;
@@ -30,12 +30,7 @@ use model::machine::Machine;
 use model::quantity::Access;
 use model::quantity::Page;
 use model::quantity::Processor;
-use processor::entry::enter;
-
-pub mod formed; // well-formed states
-pub mod fresh; // the machine of a first line
-pub mod operation; // operations on parts of a machine
-pub mod request; // events by what they change
+use state::formed::well_formed;
 
 // What an event is answered, and the machine after it.
 pub struct Stepped {

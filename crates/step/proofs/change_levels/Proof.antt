@@ -9,7 +9,7 @@ use Rattle.model.specs.declared.machine.PartitionLevel.{PartitionLevel}
 use Rattle.model.specs.Updates.{withLevels, withMasks}
 use Rattle.events.specs.Conditions.{isDone}
 use Rattle.step.specs.declared.Stepped.{Stepped}
-use Rattle.step.specs.Operation.{levelAnswer}
+use Rattle.dispatch.specs.Operation.{levelAnswer}
 use Rattle.step.proofs.change_levels.Statement.{statement}
 use Rattle.step.proofs.change_levels.Tie as tie
 

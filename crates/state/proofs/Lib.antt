@@ -1,0 +1,3 @@
+-- The laws that the proofs of src/ share. Assumes nothing.
+pub mod Forms  -- the tests of well-formed processors
+pub mod Places  -- well-formed states: the clauses place by place are the model's
