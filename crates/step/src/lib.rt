@@ -58,10 +58,11 @@ fn change_processor(
     ensures { λ r. ⌜ r ≡ vpStepped m (w .0) (onProcessor c (recordAt m (w .0)) (v .0) mode (w .0) x) ⌝ }
 {
     let j = w.0 as usize;
-    let r = on_processor(c, m.vps[j], v, mode, w, x);
-    let answer = r.answer;
-    if is_done(answer) {
-        let q = r.vp;
+    let after = on_processor(c, m.vps[j], v, mode, w, x);
+    let answer = after.answer;
+    let done = is_done(answer);
+    if done {
+        let q = after.vp;
         m.vps[j] = q;
     }
     Stepped { answer, machine: m }
@@ -71,9 +72,9 @@ fn change_processor(
 fn change_levels(mut m: Machine, c: Scope, v: Processor, mode: u64, x: LevelOperation) -> Stepped
     ensures { λ r. ⌜ r ≡ levelStepped m c (v .0) mode x ⌝ }
 {
-    let r = on_levels(c, m.levels, &mut m.masks, v, mode, x);
-    let answer = r.answer;
-    let levels = r.levels;
+    let levelled = on_levels(c, m.levels, &mut m.masks, v, mode, x);
+    let answer = levelled.answer;
+    let levels = levelled.levels;
     m.levels = levels;
     Stepped { answer, machine: m }
 }
