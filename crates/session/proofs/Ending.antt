@@ -1,0 +1,215 @@
+-- Laws of the end of a line: what the code has of it, against the definitions. Assumes nothing.
+use mathlib.Core.Bool.{Bool, true, false, cond, _&&_, false≢true}
+use mathlib.Core.List.{List, [], _∷_, _++_}
+use mathlib.Core.Option.{Option, none, some}
+use mathlib.Core.Path.{_≡_, refl, sym, ap, _∙_}
+use Prim.Native.Nat.{ℕ, _+_, _-_, _%_, _≤_, min}
+use borrow.Author.Tests.{eqb-true, leb-true, lt-ltb, ltb-false, ltb-true}
+use native.Mathlib.Omega.{arith}
+use lib.Dec.{eqb, ltb}
+use lib.ListN.{drop, getD, length, length-replicate, length-take, replicate, replicate-append-replicate, take}
+use lib.Seq.{length-take-le, sets, take-all, take-at}
+use Rattle.decimal.proofs.Room.{after-room, with-room}
+use Rattle.decimal.specs.Write.{afterText, withText}
+use Rattle.model.proofs.Bools.{and-right, hold}
+use Rattle.model.specs.Answers.{numberOf, valueOf}
+use Rattle.model.specs.Fresh.{admissible, fresh}
+use Rattle.model.specs.State.{State, active, activeOf, isProcessor, noVp, pastVp, processors, vp}
+use Rattle.model.specs.Step.{Outcome}
+use Rattle.model.specs.declared.event.Event.{Event}
+use Rattle.model.specs.declared.machine.FirstLine.{FirstLine}
+use Rattle.model.specs.declared.machine.Machine.{Machine}
+use Rattle.model.specs.declared.quantity.Level.{Level}
+use Rattle.model.specs.declared.quantity.Processor.{Processor}
+use Rattle.script.proofs.Cells.{line-at-most}
+use Rattle.script.specs.Events.{events, lineEvent}
+use Rattle.script.specs.First.{lineFirst, vsm}
+use Rattle.script.specs.Lines.{Form, fields, said, saidIn}
+use Rattle.script.specs.Listing.{listingLine}
+use Rattle.script.specs.declared.Parsed.{Parsed}
+use Rattle.script.specs.declared.Parsed.the-variants as parsed
+use Rattle.script.specs.declared.Start.{Start}
+use Rattle.script.specs.declared.Start.the-variants as start
+use Rattle.step.specs.Stepped.{stateOf, stepped}
+use Rattle.model.specs.Step.{step}
+use Rattle.step.specs.declared.Stepped.{Stepped}
+use Rattle.session.specs.declared.Phase.{Phase}
+use Rattle.session.specs.declared.Phase.the-variants as phase
+use Rattle.session.specs.Answer.{answerText, isKnown, levelOn}
+use Rattle.session.specs.Listing.{answered, levelColumn, numberAfter, processorOf, stateBy}
+use Rattle.session.specs.Parts.{blankIn, hasStopped, isLater}
+use Rattle.session.specs.Session.{Progress, begun, continued, ended, extended, first, held, isStopped, kept, lastText, later, lentOf, progressIn, roomFor, stopped}
+
+-- A session of each phase that holds no bytes, and one that takes more bytes.
+pub blank-in : (p : Phase) (number : ℕ) (s : State) → number ≡ 0 → progressIn p number s [] ≡ blankIn p s
+blank-in phase.First number s e = refl
+blank-in phase.Later number s e = rw e
+blank-in phase.Stopped number s e = refl
+
+pub keep-in : (p : Phase) (number : ℕ) (s : State) (line more line′ : List ℕ) → line′ ≡ take 257 (line ++ more)
+    → progressIn p number s line′ ≡ kept (extended (progressIn p number s line) more)
+keep-in phase.First number s line more line′ e = rw e
+keep-in phase.Later number s line more line′ e = rw e
+keep-in phase.Stopped number s line more line′ e = refl
+
+-- A record at the start of a buffer that has room for the longest.
+module _ (out : List ℕ) (number answer value level : ℕ) (room : 84 ≤ length out) where
+  fits : 0 + length (listingLine number answer value level) ≤ length out
+  fits = omega (arith, line-at-most number answer value level)
+
+  pub after-first : afterText out 0 (listingLine number answer value level) ≡ length (listingLine number answer value level)
+  after-first = after-room out 0 (listingLine number answer value level) fits ∙ omega arith
+
+  pub with-first : withText out 0 (listingLine number answer value level) ≡ sets out 0 (listingLine number answer value level)
+  with-first = with-room out 0 (listingLine number answer value level) fits
+
+-- All words of a fresh machine are 0.
+pub fresh-words : (f : FirstLine) → admissible f ≡ true → lentOf (replicate 64 0) (f .pages) ≡ fresh f .words
+unfolding admissible fresh
+fresh-words f h =
+    let pages : f .pages ≤ 64 = leb-true (f .pages) 64 (hold _ h .1 .1 .1 .1 .0) in
+    let count : min (f .pages) 64 ≡ f .pages = omega arith in
+    let rest : f .pages + (64 - f .pages) ≡ 64 = omega arith in
+    let zeros : replicate {A = ℕ} 64 0 ≡ replicate (f .pages) 0 ++ replicate (64 - f .pages) 0 =
+    ap (λ (n : ℕ). replicate {A = ℕ} n 0) (sym rest) ∙ sym (replicate-append-replicate (f .pages) (64 - f .pages) 0) in
+    ap (λ (n : ℕ). take n (replicate {A = ℕ} 64 0)) count
+    ∙ ap (take (f .pages)) zeros
+    ∙ take-at (replicate (f .pages) 0) (replicate (64 - f .pages) 0) (f .pages) (length-replicate (f .pages) 0)
+
+-- Words that were lent and have come back.
+pub words-back : (words lent : List ℕ) (k : ℕ) → k ≤ length words → length lent ≡ length (take k words) → take k (lent ++ drop k words) ≡ lent
+words-back words lent k h e = take-at lent (drop k words) k (e ∙ length-take-le k words h)
+
+-- The level that is active on a processor, as the code reads it.
+pub active-read : (s : State) (v : ℕ) → active s v ≡ cond (isKnown v (s .machine .processors)) (getD (s .machine .vps) (v % 4) pastVp .active .0) 0
+unfolding active activeOf vp isProcessor processors
+active-read s v = go (isKnown v (s .machine .processors)) refl
+  where
+    go : (t : Bool) → isKnown v (s .machine .processors) ≡ t
+        → cond t (getD (s .machine .vps) v pastVp) noVp .active .0 ≡ cond t (getD (s .machine .vps) (v % 4) pastVp .active .0) 0
+    go true e = let h : v % 4 ≡ v = omega (arith, ltb-true v 4 (and-right (ltb v (s .machine .processors)) (ltb v 4) e)) in rw h
+    go false e = refl
+
+-- The record of an answer, as the code has it.
+pub answer-record : (o : Outcome) (v : Processor) (number : ℕ)
+    → answerText number (o .answer) (levelOn (v .0) (o .next .machine .processors) (getD (o .next .machine .vps) (v .0 % 4) pastVp .active .0))
+    ≡ listingLine number (numberOf (o .answer)) (valueOf (o .answer)) (levelColumn o v)
+answer-record o v number = rw (active-read (o .next) (v .0))
+
+-- The end of a first line that is malformed, and of one that is not admissible or is.
+pub first-malformed : (line : List ℕ) → lineFirst line ≡ start.Malformed → ended (first line) ≡ begun none
+unfolding ended
+first-malformed line e = rw e
+
+pub first-refused : (line : List ℕ) (f : FirstLine) → lineFirst line ≡ start.First f → admissible f ≡ false → ended (first line) ≡ begun none
+unfolding ended
+first-refused line f e h = rw (e, h)
+
+pub first-done : (line : List ℕ) (f : FirstLine) → lineFirst line ≡ start.First f → admissible f ≡ true → ended (first line) ≡ begun (some (fresh f))
+unfolding ended
+first-done line f e h = rw (e, h)
+
+-- The end of a later line that is malformed, and of one that says an event.
+pub ended-malformed : (number : ℕ) (s : State) (line : List ℕ) → lineEvent line ≡ parsed.Malformed
+    → ended (later number s line) ≡ continued number (answered s parsed.Malformed)
+unfolding ended
+ended-malformed number s line e = rw e
+
+pub ended-event : (number : ℕ) (s : State) (line : List ℕ) (e : Event) → lineEvent line ≡ parsed.Event e
+    → ended (later number s line) ≡ continued number (answered s (parsed.Event e))
+unfolding ended
+ended-event number s line e h = rw h
+
+-- A later line says an event: what the code has after the step, and after the words that it lent have come back.
+module _ (number : ℕ) (m : Machine) (words line : List ℕ) (k : ℕ) (e : Event) (said : lineEvent line ≡ parsed.Event e)
+    (r : Stepped) (stepped-to : r ≡ stepped (step (stateOf m (take k words)) e))
+    (lent : List ℕ) (left : lent ≡ step (stateOf m (take k words)) e .next .words)
+  where
+    pub event-progress : k ≤ length words → length lent ≡ length (take k words)
+        → later (numberAfter number) (stateOf (r .machine) (take k (lent ++ drop k words))) []
+        ≡ ended (later number (stateOf m (take k words)) line) .progress
+    event-progress h size = rw (words-back words lent k h size, ended-event number (stateOf m (take k words)) line e said, stepped-to, left)
+
+    pub event-text : (v : Processor) → v ≡ processorOf e
+        → (active : Level) → active ≡ levelOn (v .0) (r .machine .processors) (getD (r .machine .vps) (v .0 % 4) pastVp .active .0)
+        → answerText number (r .answer) active ≡ ended (later number (stateOf m (take k words)) line) .text
+    event-text v on active there =
+        rw (there, on, ended-event number (stateOf m (take k words)) line e said, stepped-to)
+        (answer-record (step (stateOf m (take k words)) e) (processorOf e) number)
+
+-- At the end of a script: a later line that has no bytes, and any other line.
+pub last-none : (p : Phase) (number : ℕ) (s : State) (line : List ℕ) → (isLater p && eqb (length line) 0) ≡ true
+    → lastText (progressIn p number s line) ≡ []
+last-none phase.First number s line e = absurd (false≢true e)
+last-none phase.Later number s line e = rw e
+last-none phase.Stopped number s line e = refl
+
+pub last-some : (p : Phase) (number : ℕ) (s : State) (line : List ℕ) → (isLater p && eqb (length line) 0) ≡ false
+    → lastText (progressIn p number s line) ≡ ended (progressIn p number s line) .text
+unfolding ended
+last-some phase.First number s line e = refl
+last-some phase.Later number s line e = rw e
+last-some phase.Stopped number s line e = refl
+
+-- A session in a later line of which it holds nothing, one that has stopped, and one that has not.
+pub later-in : (p : Phase) (number : ℕ) (s : State) (buffer : List ℕ) (size : ℕ) → (isLater p && eqb size 0) ≡ true
+    → progressIn p number s (held buffer size) ≡ later number s []
+later-in phase.First number s buffer size e = absurd (false≢true e)
+later-in phase.Later number s buffer size e = rw (eqb-true size 0 e)
+later-in phase.Stopped number s buffer size e = absurd (false≢true e)
+
+pub stopped-in : (p : Phase) (number : ℕ) (s : State) (line : List ℕ) → hasStopped p ≡ true → progressIn p number s line ≡ stopped
+stopped-in phase.First number s line e = absurd (false≢true e)
+stopped-in phase.Later number s line e = absurd (false≢true e)
+stopped-in phase.Stopped number s line e = refl
+
+pub phase-stopped : (p : Phase) (number : ℕ) (s : State) (line : List ℕ) → hasStopped p ≡ isStopped (progressIn p number s line)
+phase-stopped phase.First number s line = refl
+phase-stopped phase.Later number s line = refl
+phase-stopped phase.Stopped number s line = refl
+
+pub room-in : (p : Phase) (number : ℕ) (s : State) (line : List ℕ) → hasStopped p ≡ false → roomFor (progressIn p number s line) ≡ 84
+room-in phase.First number s line e = refl
+room-in phase.Later number s line e = refl
+room-in phase.Stopped number s line e = absurd (false≢true (sym e))
+
+-- After the end of a line no bytes of a line are held, and the session is not in the first line.
+bytesOf : Progress → List ℕ
+bytesOf (first line) = 0 ∷ line
+bytesOf (later number s line) = line
+bytesOf stopped = []
+
+begun-bytes : (o : Option State) → bytesOf (begun o .progress) ≡ []
+unfolding bytesOf
+begun-bytes none = refl
+begun-bytes (some s) = refl
+
+ended-bytes : (p : Progress) → bytesOf (ended p .progress) ≡ []
+unfolding bytesOf ended
+ended-bytes (first line) = begun-bytes (stateBy (lineFirst line))
+ended-bytes (later number s line) = refl
+ended-bytes stopped = refl
+
+pub ended-later : (q : Progress) (p : Phase) (number : ℕ) (s : State) (line : List ℕ) → hasStopped p ≡ false
+    → progressIn p number s line ≡ ended q .progress → progressIn p number s line ≡ later number s []
+unfolding bytesOf
+ended-later q phase.First number s line e h = absurd (omega (arith, ap (λ (x : Progress). length (bytesOf x)) h, ap length (ended-bytes q)))
+ended-later q phase.Later number s line e h = ap (later number s) (ap bytesOf h ∙ ended-bytes q)
+ended-later q phase.Stopped number s line e h = absurd (false≢true (sym e))
+
+-- The bytes that are kept of a line say what the line says.
+module _ {A R : Type 0} (good : A → R) (bad : R) (forms : List (Form A)) (line : List ℕ) where
+  pub said-kept : said good bad forms (take 257 line) ≡ said good bad forms line
+  unfolding said
+  said-kept = go (ltb 256 (length line)) refl
+    where
+      go : (t : Bool) → ltb 256 (length line) ≡ t
+          → cond (ltb 256 (length (take 257 line))) bad (saidIn good bad forms (fields (take 257 line))) ≡ cond t bad (saidIn good bad forms (fields line))
+      go true e = rw (lt-ltb 256 (length (take 257 line)) (omega (arith, length-take 257 line, ltb-true 256 (length line) e)))
+      go false e = rw (take-all 257 line (omega (arith, ltb-false 256 (length line) e)), e)
+
+pub ended-kept : (p : Progress) → ended (kept p) ≡ ended p
+unfolding ended lineEvent lineFirst
+ended-kept (first line) = ap (λ (x : Start). begun (stateBy x)) (said-kept start.First start.Malformed (vsm ∷ []) line)
+ended-kept (later number s line) = ap (λ (x : Parsed). continued number (answered s x)) (said-kept parsed.Event parsed.Malformed events line)
+ended-kept stopped = refl

@@ -1,0 +1,61 @@
+-- `session::chunk::append` meets its contract. The loop's invariant is `Appending`, and the measure is what is left of `more`.
+-- Assumes nothing.
+use Prim.Native.Nat.{_-_}
+use borrow.Author.Needs.{needs}
+use lib.ListN.{length}
+use Rattle.session.proofs.ChunkLines.{Appending, append-all, append-byte, append-full, append-start}
+use Rattle.session.proofs.chunk.append.Statement.{statement}
+use Rattle.session.proofs.chunk.append.Tie as tie
+
+abbrev Inv-loop : tie.InvT-loop
+Inv-loop length₀ more line₀ at₀ i₀ line at i = Appending line₀ length₀ more line at i
+
+abbrev μ-loop : tie.MeasureT-loop
+μ-loop length₀ more line₀ at₀ i₀ line at i = length more - i
+
+at-most-requires : tie.Need-at-most-requires Inv-loop μ-loop
+at-most-requires c κs = tt
+
+loop-holds : tie.Need-loop-holds Inv-loop μ-loop
+loop-holds c = append-start _ _ _ _ (search needs) (c .at-most .ensures)
+
+returns : tie.Need-returns Inv-loop μ-loop
+returns c = append-full (c .before .before .loop .inv) (c .if1 .taken)
+
+shared-slice-read-buffer : tie.Need-shared-slice-read-buffer Inv-loop μ-loop
+shared-slice-read-buffer c = search needs
+
+slice-write-buffer : tie.Need-slice-write-buffer Inv-loop μ-loop
+slice-write-buffer c = search needs
+
+add-at : tie.Need-add-at Inv-loop μ-loop
+add-at c = search needs
+
+add-i : tie.Need-add-i Inv-loop μ-loop
+add-i c = search needs
+
+loop-less : tie.Need-loop-less Inv-loop μ-loop
+loop-less c = search needs
+
+loop-again : tie.Need-loop-again Inv-loop μ-loop
+loop-again c = let l = c .before .before in append-byte (l .before .loop .inv) (l .loop-test .taken) (c .before .if1 .left)
+
+returns-2 : tie.Need-returns-2 Inv-loop μ-loop
+returns-2 c = append-all (c .before .loop .inv) (c .loop-test .left)
+
+pub append-spec : {M : Type 1} → statement M
+append-spec =
+    tie.close
+    (tie.spec
+    Inv-loop
+    μ-loop
+    at-most-requires
+    loop-holds
+    returns
+    shared-slice-read-buffer
+    slice-write-buffer
+    add-at
+    add-i
+    loop-less
+    loop-again
+    returns-2)

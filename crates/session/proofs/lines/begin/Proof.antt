@@ -1,0 +1,19 @@
+-- `session::lines::begin` meets its contract: the state is the fresh one, and the record has room. Assumes nothing.
+use mathlib.Core.Path.{_∙_}
+use borrow.Author.Needs.{needs}
+use Rattle.session.proofs.Ending.{after-first, fresh-words, with-first}
+use Rattle.session.proofs.lines.begin.Statement.{statement}
+use Rattle.session.proofs.lines.begin.Tie as tie
+
+returns : tie.Need-returns
+returns c =
+    let w = c .before .before in
+    let start = w .before .before .before .before in
+    record {
+      progress = rw (w .before .before .fresh .ensures, fresh-words (start .args .f) (start .pre .1));
+      wrote = w .write-line .ensures .0 ∙ after-first (start .args .out .now) 0 0 0 0 (start .pre .0);
+      written = w .write-line .ensures .1 ∙ with-first (start .args .out .now) 0 0 0 0 (start .pre .0);
+    }
+
+pub begin-spec : {M : Type 1} → statement M
+begin-spec = tie.close (tie.spec (λ c κs. tt) (λ c κs. tt) (λ c. search needs) returns)

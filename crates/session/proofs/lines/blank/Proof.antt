@@ -1,0 +1,11 @@
+-- `session::lines::blank` meets its contract: in each phase. Assumes nothing.
+use mathlib.Core.Path.{refl}
+use Rattle.session.proofs.Ending.{blank-in}
+use Rattle.session.proofs.lines.blank.Statement.{statement}
+use Rattle.session.proofs.lines.blank.Tie as tie
+
+returns : tie.Need-returns
+returns c = blank-in (c .before .args .phase) 0 _ refl
+
+pub blank-spec : {M : Type 1} → statement M
+blank-spec = tie.close (tie.spec (λ c κs. tt) returns)

@@ -1,0 +1,127 @@
+-- The listing of a whole script (01, "Script and listing"): its lines, what each is answered, and the record of each answer.
+-- Assumes nothing.
+use mathlib.Core.Bool.{cond}
+use mathlib.Core.List.{List, [], _∷_, _++_}
+use mathlib.Core.Option.{Option, none, some}
+use Prim.Native.Nat.{ℕ, _+_, _%_, _^_}
+use lib.Dec.{eqb}
+use Rattle.model.specs.Answers.{numberOf, valueOf}
+use Rattle.model.specs.Fresh.{admissible, fresh}
+use Rattle.model.specs.State.{State, active}
+use Rattle.model.specs.Step.{Outcome}
+use Rattle.model.specs.declared.answer.Answer.{Answer}
+use Rattle.model.specs.declared.answer.Answer.the-variants.{Refused}
+use Rattle.model.specs.declared.answer.Refusal.the-variants.{Malformed}
+use Rattle.model.specs.declared.event.Event.{Event}
+use Rattle.model.specs.declared.event.Event.the-variants.{Enpart, Envp, Call, Ret, Read, Write, Fetch, Protect, Config, Secure, Flush, Rreg, Wreg, Tpr, Ack, Int, Pstat, Vstat, Caps}
+use Rattle.model.specs.declared.quantity.Processor.{Processor}
+use Rattle.script.specs.Events.{lineEvent}
+use Rattle.script.specs.First.{lineFirst}
+use Rattle.script.specs.Listing.{lineFeed, listingLine}
+use Rattle.script.specs.declared.Parsed.{Parsed}
+use Rattle.script.specs.declared.Parsed.the-variants as parsed
+use Rattle.script.specs.declared.Start.{Start}
+use Rattle.script.specs.declared.Start.the-variants as start
+use Rattle.model.specs.Step.{step}
+
+-- The lines that a line feed ends, and the bytes after the last line feed.
+pub record Lines : Type 0 where
+  pub complete : List (List ℕ)
+  pub rest : List ℕ
+
+-- A byte in front of them.
+abbrev pub inFront : ℕ → List (List ℕ) → List ℕ → Lines
+inFront byte [] rest = record { complete = []; rest = byte ∷ rest }
+inFront byte (line ∷ more) rest = record { complete = (byte ∷ line) ∷ more; rest = rest }
+
+unfoldable pub linesIn : List ℕ → Lines
+linesIn [] = record { complete = []; rest = [] }
+linesIn (byte ∷ bytes) =
+    cond (eqb byte lineFeed)
+    (record { complete = [] ∷ linesIn bytes .complete; rest = linesIn bytes .rest })
+    (inFront byte (linesIn bytes .complete) (linesIn bytes .rest))
+
+-- One record a line; the last line may lack its line feed. A line feed at the end opens no further line.
+abbrev pub lastLine : List ℕ → List (List ℕ)
+lastLine [] = []
+lastLine (byte ∷ rest) = (byte ∷ rest) ∷ []
+
+unfoldable pub lines : List ℕ → List (List ℕ)
+lines input = linesIn input .complete ++ lastLine (linesIn input .rest)
+
+-- The processor that the level column is about: v, or w where no v is named.
+abbrev pub processorOf : Event → Processor
+processorOf (Enpart v mode t mbec) = v
+processorOf (Envp v mode w t rip rsp cr0) = v
+processorOf (Call v mode len) = v
+processorOf (Ret v mode len) = v
+processorOf (Read v mode p) = v
+processorOf (Write v mode p x) = v
+processorOf (Fetch v mode p) = v
+processorOf (Protect v mode p mask) = v
+processorOf (Config v mode g word) = v
+processorOf (Secure v mode l word) = v
+processorOf (Flush v mode) = v
+processorOf (Rreg v mode g r) = v
+processorOf (Wreg v mode g r x) = v
+processorOf (Tpr v mode class) = v
+processorOf (Ack v mode) = v
+processorOf (Int w g vector) = w
+processorOf (Pstat v mode) = v
+processorOf (Vstat v mode) = v
+processorOf (Caps v mode) = v
+
+-- The level now active on that processor, and 0 for answer 1.
+abbrev pub levelColumn : Outcome → Processor → ℕ
+levelColumn o v = cond (eqb (numberOf (o .answer)) 1) 0 (active (o .next) (v .0))
+
+-- What a line after the first is answered, its level column, and the next state.
+pub record Answered : Type 0 where
+  pub answer : Answer
+  pub level : ℕ
+  pub next : State
+
+-- A malformed line gets answer 1 and the state stays; an event gets what the model's step gives.
+abbrev pub answered : State → Parsed → Answered
+answered s parsed.Malformed = record { answer = Refused Malformed; level = 0; next = s }
+answered s (parsed.Event e) =
+    record { answer = step s e .answer; level = levelColumn (step s e) (processorOf e); next = step s e .next }
+
+-- The record of an answer.
+abbrev pub recordOf : ℕ → Answered → List ℕ
+recordOf number a = listingLine number (numberOf (a .answer)) (valueOf (a .answer)) (a .level)
+
+-- Line numbers count from 0, modulo 2^64.
+abbrev pub numberAfter : ℕ → ℕ
+numberAfter number = (number + 1) % 2 ^ 64
+
+-- The records of lines after the first, of which the next has this number.
+unfoldable pub laterRecords : ℕ → State → List (List ℕ) → List ℕ
+laterRecords number s [] = []
+laterRecords number s (line ∷ more) =
+    recordOf number (answered s (lineEvent line)) ++ laterRecords (numberAfter number) (answered s (lineEvent line) .next) more
+
+-- The state that the first line describes: none where the line is malformed or not admissible.
+abbrev pub stateBy : Start → Option State
+stateBy start.Malformed = none
+stateBy (start.First f) = cond (admissible f) (some (fresh f)) none
+
+-- The records of the first line: done, and refused.
+abbrev pub firstDone : List ℕ
+firstDone = listingLine 0 0 0 0
+
+abbrev pub firstRefused : List ℕ
+firstRefused = listingLine 0 1 0 0
+
+-- After a refused first line the program stops.
+abbrev pub listingFrom : Option State → List (List ℕ) → List ℕ
+listingFrom none more = firstRefused
+listingFrom (some s) more = firstDone ++ laterRecords 1 s more
+
+-- An empty input is refused as well.
+abbrev pub listingOf : List (List ℕ) → List ℕ
+listingOf [] = firstRefused
+listingOf (line ∷ more) = listingFrom (stateBy (lineFirst line)) more
+
+unfoldable pub listing : List ℕ → List ℕ
+listing input = listingOf (lines input)

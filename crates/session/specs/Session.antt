@@ -1,0 +1,132 @@
+-- What a session does with a chunk of a script, and at the script's end. It goes by the chunk's lines: those that a line feed
+-- ends are answered, and what is left of the chunk is kept as the beginning of the next line. Assumes nothing.
+use mathlib.Core.Bool.{Bool, true, false, cond}
+use mathlib.Core.List.{List, [], _∷_, _++_}
+use mathlib.Core.Option.{Option, none, some}
+use mathlib.Core.Path.{_≡_}
+use Prim.Native.Nat.{ℕ, suc, min, _+_, _-_, _≤_}
+use lib.Dec.{eqb, ltb}
+use lib.ListN.{length, take}
+use lib.Seq.{sets}
+use Rattle.model.specs.State.{State}
+use Rattle.script.specs.Events.{lineEvent}
+use Rattle.script.specs.First.{lineFirst}
+use Rattle.step.specs.Stepped.{stateOf}
+use Rattle.session.specs.declared.Fed.{Fed}
+use Rattle.session.specs.declared.Phase.{Phase}
+use Rattle.session.specs.declared.Phase.the-variants as phase
+use Rattle.session.specs.declared.Session.{Session}
+use Rattle.session.specs.Listing.{Answered, answered, firstDone, firstRefused, linesIn, numberAfter, recordOf, stateBy}
+
+-- How far a session has come, with the bytes that it has of a line that has not ended.
+pub data Progress : Type 0 where
+  -- in the first line
+  first : List ℕ → Progress
+  -- in a later line: its number, and the state before it
+  later : ℕ → State → List ℕ → Progress
+  -- after a refused first line
+  stopped : Progress
+
+-- How far a session of a phase has come.
+abbrev pub progressIn : Phase → ℕ → State → List ℕ → Progress
+progressIn phase.First number s line = first line
+progressIn phase.Later number s line = later number s line
+progressIn phase.Stopped number s line = stopped
+
+-- The bytes of the line that has not ended: so many of the buffer, which has 257.
+abbrev pub held : List ℕ → ℕ → List ℕ
+held buffer length = take (min length 257) buffer
+
+-- The words of the pages: so many of the array, which has 64.
+abbrev pub lentOf : List ℕ → ℕ → List ℕ
+lentOf words lent = take (min lent 64) words
+
+-- What a session stands for. The buffer beyond the bytes of the line, and the words beyond those of the pages, are no part of it.
+abbrev pub progressOf : Session → Progress
+progressOf s =
+    progressIn (s .phase) (s .number) (stateOf (s .machine) (lentOf (s .words) (s .lent))) (held (s .line) (s .length))
+
+-- Nothing is read after a refused first line.
+abbrev pub isStopped : Progress → Bool
+isStopped (first line) = false
+isStopped (later number s line) = false
+isStopped stopped = true
+
+-- More bytes of the line.
+abbrev pub extended : Progress → List ℕ → Progress
+extended (first line) more = first (line ++ more)
+extended (later number s line) more = later number s (line ++ more)
+extended stopped more = stopped
+
+-- Of a line that goes on in the next chunk at most 257 bytes are kept. So many are too many, whatever follows.
+abbrev pub kept : Progress → Progress
+kept (first line) = first (take 257 line)
+kept (later number s line) = later number s (take 257 line)
+kept stopped = stopped
+
+-- What the end of a line leaves, and its record.
+pub record Ended : Type 0 where
+  pub progress : Progress
+  pub text : List ℕ
+
+-- The first line gives the state that it describes, or is refused; then the session stops.
+abbrev pub begun : Option State → Ended
+begun none = record { progress = stopped; text = firstRefused }
+begun (some s) = record { progress = later 1 s []; text = firstDone }
+
+-- A later line gives its answer's record and the next state.
+abbrev pub continued : ℕ → Answered → Ended
+continued number a = record { progress = later (numberAfter number) (a .next) []; text = recordOf number a }
+
+unfoldable pub ended : Progress → Ended
+ended (first line) = begun (stateBy (lineFirst line))
+ended (later number s line) = continued number (answered s (lineEvent line))
+ended stopped = record { progress = stopped; text = [] }
+
+-- The longest record has so many bytes; a session that has stopped writes none.
+abbrev pub roomFor : Progress → ℕ
+roomFor (first line) = 84
+roomFor (later number s line) = 84
+roomFor stopped = 0
+
+-- What a session leaves of a chunk, how many bytes of it are used, and what is written.
+pub record Feeding : Type 0 where
+  pub progress : Progress
+  pub used : ℕ
+  pub text : List ℕ
+
+-- A line of the chunk was used, with its line feed, and then more.
+abbrev pub followed : List ℕ → List ℕ → Feeding → Feeding
+followed line text f = record { progress = f .progress; used = suc (length line) + f .used; text = text ++ f .text }
+
+-- Lines are answered while the longest record has room; then what is left of the chunk is kept.
+unfoldable pub fedLines : Progress → List (List ℕ) → List ℕ → ℕ → Feeding
+fedLines p [] rest room = record { progress = kept (extended p rest); used = length rest; text = [] }
+fedLines p (line ∷ more) rest room =
+    let e = ended (extended p line) in
+    cond (ltb room (roomFor p))
+    (record { progress = p; used = 0; text = [] })
+    (followed line (e .text) (fedLines (e .progress) more rest (room - length (e .text))))
+
+-- A chunk, and the room in the buffer.
+unfoldable pub fed : Progress → List ℕ → ℕ → Feeding
+fed p chunk room = fedLines p (linesIn chunk .complete) (linesIn chunk .rest) room
+
+-- What is written at the end: the record of a last line that lacks its line feed, or of an empty input.
+abbrev pub lastText : Progress → List ℕ
+lastText (first line) = ended (first line) .text
+lastText (later number s line) = cond (eqb (length line) 0) [] (ended (later number s line) .text)
+lastText stopped = []
+
+-- What `feed` returns and leaves in the buffer, by a feeding.
+pub record FedBy (f : Feeding) (r : Fed) (before after : List ℕ) : Type 0 where
+  pub progress : progressOf (r .session) ≡ f .progress
+  pub used : r .used ≡ f .used
+  pub wrote : r .wrote ≡ length (f .text)
+  pub written : after ≡ sets before 0 (f .text)
+
+-- What a caller needs to take parts of what it lent: how much was used of the chunk and written lies within them.
+pub record Bounds (used wrote : ℕ) (chunk out : List ℕ) : Type 0 where
+  pub used-within : used ≤ length chunk
+  pub wrote-within : wrote ≤ length out
+  pub wrote-taken : wrote ≡ length (take wrote out)

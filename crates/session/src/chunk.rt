@@ -1,0 +1,79 @@
+// Lines in a chunk: where one ends, and the beginning of one that goes on in the next chunk.
+ghost use mathlib.Core.List.{_++_};
+ghost use mathlib.Core.Path.{_≡_};
+ghost use Prim.Native.Nat.{min};
+ghost use lib.ListN.{take};
+ghost use Rattle.script.specs.Events.{lineEvent};
+ghost use Rattle.script.specs.First.{lineFirst};
+ghost use Rattle.session.specs.Chunk.{lineEnd};
+ghost use Rattle.session.specs.Session.{held};
+use script::Parsed;
+use script::Start;
+
+// A line has at most 256 bytes; one more is kept, so that a longer line is known to be too long.
+const KEPT: usize = 257;
+
+// The smaller of two numbers.
+pub fn at_most(n: usize, most: usize) -> usize
+    ensures { λ r. ⌜ r ≡ min n most ⌝ }
+{
+    if n < most { n } else { most }
+}
+
+// Where the line that starts at `start` ends: at the next line feed, or at the chunk's end.
+pub fn line_end(chunk: &[u8], start: usize) -> usize
+    ensures { λ r. ⌜ r ≡ lineEnd (now (chunk .entry)) start ⌝ }
+{
+    let mut i = start;
+    while i < chunk.len() {
+        if chunk[i] == b'\n' {
+            return i;
+        }
+        i += 1;
+    }
+    i
+}
+
+// Puts more bytes after the first `length` of a line, as far as there is room, and returns how many it then has.
+pub fn append(line: &mut [u8; 257], length: usize, more: &[u8]) -> usize
+    ensures { λ r. ⌜ held (now (line .exit)) r ≡ take 257 (held (now (line .entry)) length ++ now (more .entry)) ⌝ }
+{
+    let buffer: &mut [u8] = line;
+    let mut at = at_most(length, KEPT);
+    let mut i: usize = 0;
+    while i < more.len() {
+        if KEPT <= at {
+            return at;
+        }
+        buffer[at] = more[i];
+        at += 1;
+        i += 1;
+    }
+    at
+}
+
+// How many bytes of a line are in the buffer.
+pub fn held_length(line: &[u8; 257], length: usize) -> usize
+    ensures { λ r. ⌜ r ≡ lib.ListN.length (held (now (line .entry)) length) ⌝ }
+{
+    let buffer: &[u8] = line;
+    at_most(length, buffer.len())
+}
+
+// What a line after the first says, of which `length` bytes are in the buffer.
+pub fn parse(line: &[u8; 257], length: usize) -> Parsed
+    ensures { λ r. ⌜ r ≡ lineEvent (held (now (line .entry)) length) ⌝ }
+{
+    let buffer: &[u8] = line;
+    let end = at_most(length, KEPT);
+    script::parse(&buffer[..end])
+}
+
+// What the first line says.
+pub fn parse_first(line: &[u8; 257], length: usize) -> Start
+    ensures { λ r. ⌜ r ≡ lineFirst (held (now (line .entry)) length) ⌝ }
+{
+    let buffer: &[u8] = line;
+    let end = at_most(length, KEPT);
+    script::parse_first(&buffer[..end])
+}

@@ -1,0 +1,118 @@
+// A script that comes in chunks, and its listing (01, "Script and listing"). A caller makes a session, feeds it the script's
+// chunks in order, and finishes it; what is written on the way is the listing of the whole. Every function takes any arguments.
+ghost use mathlib.Core.List.{[]};
+ghost use mathlib.Core.Path.{_≡_};
+ghost use lib.ListN.{length};
+ghost use lib.Seq.{sets};
+ghost use Rattle.session.specs.Session.{Bounds, FedBy, fed, first, isStopped, lastText, progressOf};
+use model::machine::Machine;
+
+mod answer; // what a line is answered, as the listing shows it
+mod chunk; // lines in a chunk
+mod lines; // lines that end
+
+// How far a session has come.
+pub enum Phase {
+    First,
+    Later,
+    Stopped,
+}
+
+// What is kept from chunk to chunk. A line has at most 256 bytes; one more is kept, so that a longer line is known to be too long.
+pub struct Session {
+    phase: Phase,
+    // The number of the line that comes next.
+    number: u64,
+    // The beginning of a line that goes on in the next chunk: so many bytes of the buffer.
+    length: usize,
+    line: [u8; 257],
+    // The machine, and the words of its pages: so many of the array.
+    machine: Machine,
+    lent: usize,
+    words: [u64; 64],
+}
+
+// The session after a chunk, how much of the chunk was used, and how much was written.
+pub struct Fed {
+    pub session: Session,
+    pub used: usize,
+    pub wrote: usize,
+}
+
+// A session before the first byte.
+pub fn fresh() -> Session
+    ensures { λ r. ⌜ progressOf r ≡ first [] ⌝ }
+{
+    lines::blank(Phase::First)
+}
+
+// Whether a session has stopped after a refused first line: what follows is not read.
+pub fn stopped(s: Session) -> bool
+    ensures { λ r. ⌜ r ≡ isStopped (progressOf s) ⌝ }
+{
+    let phase = s.phase;
+    lines::has_stopped(phase)
+}
+
+// Uses as much of a chunk as `out` has room for the records of, and says how much that was: no line is ended while fewer than 84
+// bytes are left. A line that lies whole in the chunk is not copied.
+pub fn feed(start: Session, chunk: &[u8], out: &mut [u8]) -> Fed
+    ensures { λ r. ⌜ FedBy (fed (progressOf start) (now (chunk .entry)) (length (now (out .entry)))) r (now (out .entry)) (now (out .exit)) ⌝ }
+    ensures { λ r. ⌜ Bounds (r .used) (r .wrote) (now (chunk .entry)) (now (out .exit)) ⌝ }
+{
+    let phase = start.phase;
+    if lines::has_stopped(phase) {
+        return Fed {
+            session: start,
+            used: chunk.len(),
+            wrote: 0,
+        };
+    }
+    if lines::is_later(phase) & (start.length == 0) {
+        return lines::feed_later(start, chunk, 0, out, 0);
+    }
+    let end = chunk::line_end(chunk, 0);
+    if chunk.len() <= end {
+        return Fed {
+            session: lines::keep(start, chunk),
+            used: end,
+            wrote: 0,
+        };
+    }
+    if out.len() < lines::LONGEST {
+        return Fed {
+            session: start,
+            used: 0,
+            wrote: 0,
+        };
+    }
+    let line = lines::keep(start, &chunk[..end]);
+    let e = lines::end_line(line, out);
+    let next = e.session;
+    let after = next.phase;
+    if lines::has_stopped(after) {
+        return Fed {
+            session: next,
+            used: chunk.len(),
+            wrote: e.wrote,
+        };
+    }
+    lines::feed_later(next, chunk, end + 1, out, e.wrote)
+}
+
+// Writes the record of a last line that lacks its line feed, or of an empty input, and says how many bytes that took.
+pub fn finish(s: Session, out: &mut [u8; 84]) -> usize
+    ensures { λ r. ⌜ r ≡ length (lastText (progressOf s)) ⌝ }
+    ensures { λ _. ⌜ now (out .exit) ≡ sets (now (out .entry)) 0 (lastText (progressOf s)) ⌝ }
+    ensures { λ r. ⌜ Bounds 0 r [] (now (out .exit)) ⌝ }
+{
+    let phase = s.phase;
+    let line = s.line;
+    let held = chunk::held_length(&line, s.length);
+    if lines::is_later(phase) & (held == 0) {
+        return 0;
+    }
+    let buffer: &mut [u8] = out;
+    let e = lines::end_line(s, buffer);
+    e.wrote
+}
