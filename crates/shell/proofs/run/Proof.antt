@@ -1,0 +1,40 @@
+-- `run` is safe and ends: the buffers keep their lengths, and the turns count down. Assumes nothing.
+use mathlib.Core.Path.{_≡_}
+use borrow.Author.Needs.{needs}
+use lib.ListN.{length}
+use Rattle.shell.proofs.run.Statement.{statement}
+use Rattle.shell.proofs.run.Tie as tie
+
+abbrev Inv-loop : tie.InvT-loop
+Inv-loop descriptor out₀ buffer₀ s₀ turns₀ t10 out buffer s turns = (344064 ≡ length out) × (4096 ≡ length buffer)
+
+abbrev μ-loop : tie.MeasureT-loop
+μ-loop descriptor out₀ buffer₀ s₀ turns₀ t10 out buffer s turns = turns
+
+pub run-spec : {M : Type 1} → statement M
+run-spec =
+    tie.close
+    (tie.spec
+    Inv-loop
+    μ-loop
+    (λ c κs. search needs)
+    (λ c κs. search needs)
+    (λ c κs. search needs)
+    (λ c. search needs)
+    (λ c. search needs)
+    (λ c κs. search needs)
+    (λ c. search needs)
+    (λ c κs. search needs)
+    (λ c. search needs)
+    (λ c. search needs)
+    (λ c κs. search needs)
+    (λ c. search needs)
+    (λ c. search needs)
+    (λ c. search needs)
+    (λ c κs. search needs)
+    (λ c. search needs)
+    (λ c. search needs)
+    (λ c. search needs)
+    (λ c. search needs)
+    (λ c κs. search needs)
+    (λ c. search needs))
