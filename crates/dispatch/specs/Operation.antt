@@ -20,7 +20,7 @@ use Rattle.events.specs.declared.scope.Scope.{Scope}
 use Rattle.events.specs.declared.scope.VpStep.{VpStep}
 use Rattle.events.specs.Access.{accessAnswer}
 use Rattle.events.specs.Levels.{enpartAnswer, enpartLevels, protectAnswer, configAnswer, configLevels, configMasks}
-use Rattle.events.specs.Parts.{callIn, retIn, secureIn, rregIn, wregIn, tprIn, ackIn, envpIn, intIn}
+use Rattle.processor_events.specs.Events.{callIn, retIn, secureIn, rregIn, wregIn, tprIn, ackIn, envpIn, intIn}
 use Rattle.events.specs.Status.{statusAnswer, partitionWord, processorWord, capabilityWord}
 use Rattle.dispatch.specs.declared.request.LevelOperation.{LevelOperation}
 use Rattle.dispatch.specs.declared.request.LevelOperation.the-variants.{Enpart, Protect, Config}

@@ -22,15 +22,6 @@ use events::status_events::capability_word;
 use events::status_events::partition_word;
 use events::status_events::processor_word;
 use events::status_events::status;
-use events::vp_events::ack;
-use events::vp_events::call;
-use events::vp_events::envp;
-use events::vp_events::int;
-use events::vp_events::ret;
-use events::vp_events::rreg;
-use events::vp_events::secure;
-use events::vp_events::tpr;
-use events::vp_events::wreg;
 use model::answer::Answer;
 use model::machine::PartitionLevel;
 use model::machine::Shape;
@@ -45,6 +36,15 @@ use processor::context::enabled_set;
 use processor::context::is_level;
 use processor::secure::holds_lock;
 use processor::secure::mbec_set;
+use processor_events::ack;
+use processor_events::call;
+use processor_events::envp;
+use processor_events::int;
+use processor_events::ret;
+use processor_events::rreg;
+use processor_events::secure;
+use processor_events::tpr;
+use processor_events::wreg;
 
 // The scope of an event, from the parts of a machine and the active level of the maker's processor.
 pub fn scope(

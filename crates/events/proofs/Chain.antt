@@ -14,7 +14,7 @@ use Rattle.model.specs.State.{State, vp}
 use Rattle.model.specs.Step.{rule, nextFor, ruled}
 use Rattle.model.specs.Updates.{putVp}
 use Rattle.events.specs.Conditions.{ifDone}
-use Rattle.events.specs.Parts.{settled, vpOutcome}
+use Rattle.events.specs.Scope.{settled, vpOutcome}
 
 -- Two conditions side by side with one answer are one.
 pub merge : (a b : Bool) (x y : Answer) → cond a x (cond b x y) ≡ cond (a || b) x y

@@ -23,10 +23,10 @@ use Rattle.partition.proofs.Joins.{level-of, config-of, protects-of, host-denie
 use Rattle.partition.specs.Parts.{levelIn, protectsIn}
 use Rattle.events.specs.Access.{accessAnswer, denialAnswer}
 use Rattle.events.specs.Levels.{enpartAnswer, enpartLevels, protectAnswer, configAnswer, configLevels, configMasks}
-use Rattle.events.specs.Parts.{scopeOf}
+use Rattle.events.specs.Scope.{scopeOf}
 use Rattle.events.specs.Status.{flushAnswer, statusAnswer, partitionWord, processorWord, capabilityWord}
 use Rattle.events.proofs.Chain.{merge, or-assoc, answerOf, joined-still}
-use Rattle.events.proofs.VpJoins.{in-enabled, in-mbec}
+use Rattle.events.proofs.Levels.{in-enabled, in-mbec}
 
 -- New masks, or those that the state has.
 masks-or-not : (s : State) (b : Bool) (ks : List ℕ) → cond b (putMasks s ks) s ≡ putMasks s (cond b ks (s .machine .masks))

@@ -13,7 +13,7 @@ use Rattle.model.specs.Answers.{firstOf, _when_}
 use Rattle.model.specs.State.{level}
 use Rattle.partition.specs.Parts.{denyingSet, lowestOf, hostDeniesBy}
 use Rattle.events.specs.declared.scope.Scope.{Scope}
-use Rattle.events.specs.Parts.{unmade}
+use Rattle.events.specs.Scope.{unmade}
 
 -- The answer from who denies: the receiver of an intercept is 4 if there is none.
 unfoldable pub denialAnswer : Bool → ℕ → Bool → Bool → ℕ → Answer

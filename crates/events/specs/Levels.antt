@@ -16,7 +16,7 @@ use Rattle.model.specs.State.{top}
 use Rattle.model.specs.Updates.{withEnabled, withConfig, filled}
 use Rattle.partition.specs.Parts.{levelIn, configIn, protectsIn}
 use Rattle.events.specs.declared.scope.Scope.{Scope}
-use Rattle.events.specs.Parts.{unmade}
+use Rattle.events.specs.Scope.{unmade}
 
 unfoldable pub enpartAnswer : Scope → ℕ → ℕ → ℕ → ℕ → Answer
 enpartAnswer c v mode t mbec = firstOf (

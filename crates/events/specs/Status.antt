@@ -10,7 +10,7 @@ use Rattle.model.specs.declared.answer.Refusal.the-variants.{Malformed, Undefin
 use Rattle.model.specs.Answers.{firstOf, _when_}
 use Rattle.model.specs.State.{top}
 use Rattle.events.specs.declared.scope.Scope.{Scope}
-use Rattle.events.specs.Parts.{unmade}
+use Rattle.events.specs.Scope.{unmade}
 
 -- flush: `locked` tells whether a higher level holds a lock on the actor's level.
 unfoldable pub flushAnswer : Scope → Bool → ℕ → ℕ → Answer

@@ -4,4 +4,3 @@ pub mod answers; // the answer that conditions give
 pub mod level_events; // enpart, protect, config
 pub mod scope; // what an event is decided from
 pub mod status_events; // flush, pstat, vstat, caps
-pub mod vp_events; // call, ret, secure, rreg, wreg, tpr, ack, envp, int

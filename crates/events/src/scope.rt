@@ -1,6 +1,6 @@
 // What an event is decided from, beside the record that it changes: numbers only, so that deciding copies nothing.
 ghost use mathlib.Core.Path.{_≡_};
-ghost use Rattle.events.specs.Parts.{unmade};
+ghost use Rattle.events.specs.Scope.{unmade};
 use model::answer::Answer;
 use model::machine::Shape;
 use model::machine::VirtualProcessor;

@@ -29,9 +29,9 @@ use Rattle.model.specs.Updates.{setMask, setWord, putMasks}
 use Rattle.model.specs.WellFormed.{wellFormed}
 use Rattle.events.proofs.Chain.{answerOf, plain, first-settles, settles}
 use Rattle.events.proofs.PartitionJoins.{enpart-answer, protect-answer, config-answer, enpart-effect, config-effect, read-answer, write-answer, fetch-answer, flush-joined, pstat-joined, vstat-joined, caps-joined}
-use Rattle.events.proofs.VpJoins.{call-joined, ret-joined, secure-joined, rreg-joined, wreg-joined, tpr-joined, ack-joined, envp-joined, int-joined}
+use Rattle.processor_events.proofs.Joins.{call-joined, ret-joined, secure-joined, rreg-joined, wreg-joined, tpr-joined, ack-joined, envp-joined, int-joined}
 use Rattle.events.specs.Conditions.{ifDone}
-use Rattle.events.specs.Parts.{scopeOf}
+use Rattle.events.specs.Scope.{scopeOf}
 use Rattle.events.specs.Status.{flushAnswer}
 use Rattle.dispatch.specs.Operation.{wordsDone, lockedIn}
 use Rattle.step.specs.Outcome.{pageNext, outcomeOf}

@@ -25,7 +25,7 @@ use Rattle.partition.proofs.Joins.{enabled-set-of, mbec-set-of}
 use Rattle.events.specs.declared.scope.Scope.{Scope}
 use Rattle.events.specs.declared.scope.VpStep.{VpStep}
 use Rattle.events.specs.Conditions.{isDone, ifDone}
-use Rattle.events.specs.Parts.{scopeOf, vpOutcome}
+use Rattle.events.specs.Scope.{scopeOf, vpOutcome}
 use Rattle.events.specs.Status.{flushAnswer}
 use Rattle.dispatch.specs.declared.request.LevelOperation.{LevelOperation}
 use Rattle.dispatch.specs.declared.request.Operation.{Operation}

@@ -11,7 +11,7 @@ use Rattle.model.specs.Step.{Outcome}
 use Rattle.model.specs.Updates.{withLevels, withMasks, putVp}
 use Rattle.events.specs.declared.scope.Scope.{Scope}
 use Rattle.events.specs.Conditions.{ifDone}
-use Rattle.events.specs.Parts.{scopeOf, vpOutcome}
+use Rattle.events.specs.Scope.{scopeOf, vpOutcome}
 use Rattle.events.specs.Status.{flushAnswer}
 use Rattle.dispatch.specs.declared.request.LevelOperation.{LevelOperation}
 use Rattle.dispatch.specs.declared.request.Operation.{Operation}

@@ -1,9 +1,9 @@
 -- `vp_events::ret` meets its contract: refused in two cases, else the level is left. Assumes nothing.
 use Rattle.model.specs.Answers.{firstOf}
 use Rattle.model.specs.State.{activeOf}
-use Rattle.events.specs.Parts.{retIn}
-use Rattle.events.proofs.vp_events.ret.Statement.{statement}
-use Rattle.events.proofs.vp_events.ret.Tie as tie
+use Rattle.processor_events.specs.Events.{retIn}
+use Rattle.processor_events.proofs.ret.Statement.{statement}
+use Rattle.processor_events.proofs.ret.Tie as tie
 
 returns : tie.Need-returns
 unfolding retIn firstOf

@@ -2,9 +2,9 @@
 use borrow.Author.Tests.{eq-eqb, ne-eqb}
 use Rattle.model.specs.Answers.{firstOf}
 use Rattle.model.specs.State.{activeOf}
-use Rattle.events.specs.Parts.{ackIn}
-use Rattle.events.proofs.vp_events.ack.Statement.{statement}
-use Rattle.events.proofs.vp_events.ack.Tie as tie
+use Rattle.processor_events.specs.Events.{ackIn}
+use Rattle.processor_events.proofs.ack.Statement.{statement}
+use Rattle.processor_events.proofs.ack.Tie as tie
 
 returns : tie.Need-returns
 unfolding ackIn firstOf

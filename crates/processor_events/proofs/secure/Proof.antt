@@ -2,9 +2,9 @@
 use borrow.Author.Tests.{eq-eqb, ne-eqb, lt-ltb, le-ltb, le-leb, lt-leb}
 use Rattle.model.specs.Answers.{firstOf}
 use Rattle.model.specs.State.{activeOf, top}
-use Rattle.events.specs.Parts.{secureIn}
-use Rattle.events.proofs.vp_events.secure.Statement.{statement}
-use Rattle.events.proofs.vp_events.secure.Tie as tie
+use Rattle.processor_events.specs.Events.{secureIn}
+use Rattle.processor_events.proofs.secure.Statement.{statement}
+use Rattle.processor_events.proofs.secure.Tie as tie
 
 returns : tie.Need-returns
 unfolding secureIn firstOf

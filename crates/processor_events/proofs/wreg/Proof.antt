@@ -2,9 +2,9 @@
 use borrow.Author.Tests.{eq-eqb, ne-eqb, lt-ltb, le-ltb}
 use Rattle.model.specs.Answers.{firstOf}
 use Rattle.model.specs.State.{activeOf, top}
-use Rattle.events.specs.Parts.{wregIn}
-use Rattle.events.proofs.vp_events.wreg.Statement.{statement}
-use Rattle.events.proofs.vp_events.wreg.Tie as tie
+use Rattle.processor_events.specs.Events.{wregIn}
+use Rattle.processor_events.proofs.wreg.Statement.{statement}
+use Rattle.processor_events.proofs.wreg.Tie as tie
 
 returns : tie.Need-returns
 unfolding wregIn firstOf

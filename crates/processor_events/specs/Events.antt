@@ -10,40 +10,16 @@ use Rattle.model.specs.declared.answer.Answer.the-variants.{Done}
 use Rattle.model.specs.declared.answer.Refusal.the-variants.{Malformed, UndefinedOpcode, InvalidLevel, NotPermitted, AlreadyEnabled, NotEnabled, NoInterrupt}
 use Rattle.model.specs.declared.machine.VirtualProcessor.{VirtualProcessor}
 use Rattle.model.specs.Answers.{firstOf, _when_}
-use Rattle.model.specs.Bounded.{bits}
 use Rattle.model.specs.Entry.{highestReady, nextUp, called, returned, enters, interrupted, started, acknowledged}
 use Rattle.model.specs.Masks.{secureReservedSet}
 use Rattle.model.specs.Registers.{cr0, rflags, rcx, protectedBit, interruptBit, privateOf, sharedOf, registerOf}
-use Rattle.model.specs.State.{State, processors, pages, shape, top, context, activeOf, active, enabledAt, enabledFor, mbecFor, mbecBit}
-use Rattle.model.specs.Step.{Outcome}
-use Rattle.model.specs.Updates.{setRegister, setTpr, setSecure, putVp}
+use Rattle.model.specs.State.{top, context, activeOf, enabledAt, mbecBit}
+use Rattle.model.specs.Updates.{setRegister, setTpr, setSecure}
 use Rattle.events.specs.declared.scope.Scope.{Scope}
 use Rattle.events.specs.declared.scope.VpStep.{VpStep}
-use Rattle.events.specs.Conditions.{ifDone}
+use Rattle.events.specs.Scope.{settled, unmade}
 
--- The scope of an event that processor v makes in a state.
-abbrev pub scopeOf : State → ℕ → Scope
-scopeOf s v = record {
-  shape = shape s;
-  processors = processors s;
-  pages = pages s;
-  actor = active s v;
-  enabled = bits 4 (λ l. enabledFor s l);
-  mbec = bits 4 (λ l. mbecFor s l);
-}
-
--- The record changes only where the event is done.
-abbrev pub settled : Answer → VirtualProcessor → VirtualProcessor → VpStep
-settled a new old = record { answer = a; vp = ifDone a new old }
-
--- With the record put back at processor v, an outcome.
-abbrev pub vpOutcome : State → ℕ → VpStep → Outcome
-vpOutcome s v r = record { answer = r .answer; next = ifDone (r .answer) (putVp s v (r .vp)) s }
-
--- Processor v is not there, or the mode is neither 0 nor 1.
-abbrev pub unmade : Scope → ℕ → ℕ → Bool
-unmade c v mode = leb (c .processors) v || ltb 1 mode
-
+-- An instruction's length that is not one of 1 to 15.
 abbrev pub badLength : ℕ → Bool
 badLength len = eqb len 0 || ltb 15 len
 

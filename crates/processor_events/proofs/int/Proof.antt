@@ -2,9 +2,9 @@
 use borrow.Author.Tests.{lt-ltb, le-ltb}
 use Rattle.model.specs.Answers.{firstOf}
 use Rattle.model.specs.State.{top}
-use Rattle.events.specs.Parts.{intIn}
-use Rattle.events.proofs.vp_events.int.Statement.{statement}
-use Rattle.events.proofs.vp_events.int.Tie as tie
+use Rattle.processor_events.specs.Events.{intIn}
+use Rattle.processor_events.proofs.int.Statement.{statement}
+use Rattle.processor_events.proofs.int.Tie as tie
 
 returns : tie.Need-returns
 unfolding intIn firstOf

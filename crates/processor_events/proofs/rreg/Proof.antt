@@ -2,9 +2,9 @@
 use borrow.Author.Tests.{eq-eqb, ne-eqb, lt-ltb, le-ltb}
 use Rattle.model.specs.Answers.{firstOf}
 use Rattle.model.specs.State.{activeOf, top}
-use Rattle.events.specs.Parts.{rregIn}
-use Rattle.events.proofs.vp_events.rreg.Statement.{statement}
-use Rattle.events.proofs.vp_events.rreg.Tie as tie
+use Rattle.processor_events.specs.Events.{rregIn}
+use Rattle.processor_events.proofs.rreg.Statement.{statement}
+use Rattle.processor_events.proofs.rreg.Tie as tie
 
 returns : tie.Need-returns
 unfolding rregIn firstOf

@@ -3,16 +3,16 @@
 // event that is done changes the record.
 ghost use mathlib.Core.Path.{_≡_};
 ghost use Rattle.model.specs.declared.answer.Answer.the-variants.{Refused};
-ghost use Rattle.events.specs.Parts.{badLength, callIn, retIn, secureIn, rregIn, wregIn, tprIn, ackIn, envpIn, intIn};
-use crate::answers::one_if;
-use crate::scope::Scope;
-use crate::scope::VpStep;
-use crate::scope::is_unmade;
+ghost use Rattle.processor_events.specs.Events.{badLength, callIn, retIn, secureIn, rregIn, wregIn, tprIn, ackIn, envpIn, intIn};
 use entry::called;
 use entry::interrupted;
 use entry::next_up;
 use entry::returned;
 use entry::started;
+use events::answers::one_if;
+use events::scope::Scope;
+use events::scope::VpStep;
+use events::scope::is_unmade;
 use model::answer::Answer;
 use model::answer::Refusal;
 use model::machine::VirtualProcessor;

@@ -2,9 +2,9 @@
 use borrow.Author.Tests.{eq-eqb, ne-eqb}
 use Rattle.model.specs.Answers.{firstOf}
 use Rattle.model.specs.State.{activeOf}
-use Rattle.events.specs.Parts.{tprIn}
-use Rattle.events.proofs.vp_events.tpr.Statement.{statement}
-use Rattle.events.proofs.vp_events.tpr.Tie as tie
+use Rattle.processor_events.specs.Events.{tprIn}
+use Rattle.processor_events.proofs.tpr.Statement.{statement}
+use Rattle.processor_events.proofs.tpr.Tie as tie
 
 returns : tie.Need-returns
 unfolding tprIn firstOf

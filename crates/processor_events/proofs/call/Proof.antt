@@ -1,9 +1,9 @@
 -- `vp_events::call` meets its contract: refused in two cases, else the next level up is entered. Assumes nothing.
 use Rattle.model.specs.Answers.{firstOf}
 use Rattle.model.specs.State.{activeOf}
-use Rattle.events.specs.Parts.{callIn}
-use Rattle.events.proofs.vp_events.call.Statement.{statement}
-use Rattle.events.proofs.vp_events.call.Tie as tie
+use Rattle.processor_events.specs.Events.{callIn}
+use Rattle.processor_events.proofs.call.Statement.{statement}
+use Rattle.processor_events.proofs.call.Tie as tie
 
 returns : tie.Need-returns
 unfolding callIn firstOf

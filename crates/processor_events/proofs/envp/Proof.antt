@@ -2,9 +2,9 @@
 use borrow.Author.Tests.{eq-eqb, ne-eqb, le-leb, lt-leb}
 use Rattle.model.specs.Answers.{firstOf}
 use Rattle.model.specs.State.{top}
-use Rattle.events.specs.Parts.{envpIn}
-use Rattle.events.proofs.vp_events.envp.Statement.{statement}
-use Rattle.events.proofs.vp_events.envp.Tie as tie
+use Rattle.processor_events.specs.Events.{envpIn}
+use Rattle.processor_events.proofs.envp.Statement.{statement}
+use Rattle.processor_events.proofs.envp.Tie as tie
 
 returns : tie.Need-returns
 unfolding envpIn firstOf
