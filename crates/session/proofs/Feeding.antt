@@ -20,7 +20,7 @@ use Rattle.session.specs.declared.Fed.{Fed}
 use Rattle.session.specs.Chunk.{lineEnd}
 use Rattle.session.specs.Listing.{linesIn, stateBy}
 use Rattle.session.specs.Parts.{FedFrom}
-use Rattle.session.specs.Session.{Bounds, Ended, FedBy, Feeding, Progress, begun, ended, extended, fed, fedLines, first, followed, kept, later, progressOf, roomFor, stopped}
+use Rattle.session.specs.Session.{Bounds, Ended, Feeding, Progress, begun, ended, extended, fed, fedLines, first, followed, kept, later, progressOf, roomFor, stopped}
 use Rattle.session.proofs.ChunkLines.{end-within, joined, lines-from, lines-last, lines-joined}
 
 -- A record has at most 84 bytes.
@@ -93,7 +93,9 @@ lines-within p (line ∷ more) rest room =
 
 -- A feeding of the whole chunk into the whole buffer, with what a caller needs to take parts.
 pub fed-whole : (p : Progress) (chunk out : List ℕ) (r : Fed) (out′ : List ℕ) → FedFrom 0 0 (fed p chunk (length out - 0)) r out out′
-    → FedBy (fed p chunk (length out)) r out out′ × Bounds (r .used) (r .wrote) chunk out′
+    → let f = fed p chunk (length out) in
+    (progressOf (r .session) ≡ f .progress)
+    × ((r .used ≡ f .used) × ((r .wrote ≡ length (f .text)) × ((out′ ≡ sets out 0 (f .text)) × Bounds (r .used) (r .wrote) chunk out′)))
 unfolding fed
 fed-whole p chunk out r out′ v =
     let room : length out - 0 ≡ length out = sub-zero (length out) in
@@ -101,12 +103,21 @@ fed-whole p chunk out r out′ v =
     let f = fed p chunk (length out) in
     let b = lines-within p (linesIn chunk .complete) (linesIn chunk .rest) (length out) in
     let within : r .wrote ≤ length out′ = omega (arith, w .wrote, ap length (w .written), length-sets out 0 (f .text), b .1) in (
-      record { progress = w .progress; used = w .used ∙ zero-add (f .used); wrote = w .wrote ∙ zero-add (length (f .text)); written = w .written },
-      record {
-        used-within = omega (arith, w .used, b .0, ap length (lines-joined chunk));
-        wrote-within = within;
-        wrote-taken = sym (length-take-le (r .wrote) out′ within);
-      },
+      w .progress,
+      (
+        w .used ∙ zero-add (f .used),
+        (
+          w .wrote ∙ zero-add (length (f .text)),
+          (
+            w .written,
+            record {
+              used-within = omega (arith, w .used, b .0, ap length (lines-joined chunk));
+              wrote-within = within;
+              wrote-taken = sym (length-take-le (r .wrote) out′ within);
+            },
+          ),
+        ),
+      ),
     )
 
 -- Before a feeding so many bytes were used and this text was written.

@@ -118,13 +118,6 @@ lastText (first line) = ended (first line) .text
 lastText (later number s line) = cond (eqb (length line) 0) [] (ended (later number s line) .text)
 lastText stopped = []
 
--- What `feed` returns and leaves in the buffer, by a feeding.
-pub record FedBy (f : Feeding) (r : Fed) (before after : List ℕ) : Type 0 where
-  pub progress : progressOf (r .session) ≡ f .progress
-  pub used : r .used ≡ f .used
-  pub wrote : r .wrote ≡ length (f .text)
-  pub written : after ≡ sets before 0 (f .text)
-
 -- What a caller needs to take parts of what it lent: how much was used of the chunk and written lies within them.
 pub record Bounds (used wrote : ℕ) (chunk out : List ℕ) : Type 0 where
   pub used-within : used ≤ length chunk

@@ -14,7 +14,7 @@ use model::quantity::Processor;
 use script::listing::write_line;
 
 // The processor that the level column is about: v, or w where no v is named.
-pub fn processor_of(e: Event) -> Processor
+pub(crate) fn processor_of(e: Event) -> Processor
     ensures { λ r. ⌜ r ≡ processorOf e ⌝ }
 {
     match e {
@@ -157,7 +157,7 @@ fn level_shown(number: u64, active: Level) -> u64
 }
 
 // The level that is active on processor v, of so many, where the machine has `active` at the place for v. There are at most four.
-pub fn level_on(v: u64, processors: u64, active: u64) -> Level
+pub(crate) fn level_on(v: u64, processors: u64, active: u64) -> Level
     ensures { λ r. ⌜ r ≡ levelOn v processors active ⌝ }
 {
     if (v < processors) & (v < 4) {
@@ -168,7 +168,7 @@ pub fn level_on(v: u64, processors: u64, active: u64) -> Level
 }
 
 // Writes the record of an answer into `out` from `at` on, and returns the place after it. `active` is the level now active.
-pub fn write_answer(out: &mut [u8], at: usize, number: u64, a: Answer, active: Level) -> usize
+pub(crate) fn write_answer(out: &mut [u8], at: usize, number: u64, a: Answer, active: Level) -> usize
     requires { ⌜ at + 84 ≤ length (now out) ⌝ }
     ensures { λ r. ⌜ r ≡ at + length (answerText number a active) ⌝ }
     ensures { λ _. ⌜ now (out .exit) ≡ sets (now (out .entry)) at (answerText number a active) ⌝ }

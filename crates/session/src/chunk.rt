@@ -14,14 +14,14 @@ use script::Start;
 const KEPT: usize = 257;
 
 // The smaller of two numbers.
-pub fn at_most(n: usize, most: usize) -> usize
+pub(crate) fn at_most(n: usize, most: usize) -> usize
     ensures { λ r. ⌜ r ≡ min n most ⌝ }
 {
     if n < most { n } else { most }
 }
 
 // Where the line that starts at `start` ends: at the next line feed, or at the chunk's end.
-pub fn line_end(chunk: &[u8], start: usize) -> usize
+pub(crate) fn line_end(chunk: &[u8], start: usize) -> usize
     ensures { λ r. ⌜ r ≡ lineEnd (now (chunk .entry)) start ⌝ }
 {
     let mut i = start;
@@ -35,7 +35,7 @@ pub fn line_end(chunk: &[u8], start: usize) -> usize
 }
 
 // Puts more bytes after the first `length` of a line, as far as there is room, and returns how many it then has.
-pub fn append(line: &mut [u8; 257], length: usize, more: &[u8]) -> usize
+pub(crate) fn append(line: &mut [u8; 257], length: usize, more: &[u8]) -> usize
     ensures { λ r. ⌜ held (now (line .exit)) r ≡ take 257 (held (now (line .entry)) length ++ now (more .entry)) ⌝ }
 {
     let buffer: &mut [u8] = line;
@@ -53,7 +53,7 @@ pub fn append(line: &mut [u8; 257], length: usize, more: &[u8]) -> usize
 }
 
 // How many bytes of a line are in the buffer.
-pub fn held_length(line: &[u8; 257], length: usize) -> usize
+pub(crate) fn held_length(line: &[u8; 257], length: usize) -> usize
     ensures { λ r. ⌜ r ≡ lib.ListN.length (held (now (line .entry)) length) ⌝ }
 {
     let buffer: &[u8] = line;
@@ -61,7 +61,7 @@ pub fn held_length(line: &[u8; 257], length: usize) -> usize
 }
 
 // What a line after the first says, of which `length` bytes are in the buffer.
-pub fn parse(line: &[u8; 257], length: usize) -> Parsed
+pub(crate) fn parse(line: &[u8; 257], length: usize) -> Parsed
     ensures { λ r. ⌜ r ≡ lineEvent (held (now (line .entry)) length) ⌝ }
 {
     let buffer: &[u8] = line;
@@ -70,7 +70,7 @@ pub fn parse(line: &[u8; 257], length: usize) -> Parsed
 }
 
 // What the first line says.
-pub fn parse_first(line: &[u8; 257], length: usize) -> Start
+pub(crate) fn parse_first(line: &[u8; 257], length: usize) -> Start
     ensures { λ r. ⌜ r ≡ lineFirst (held (now (line .entry)) length) ⌝ }
 {
     let buffer: &[u8] = line;

@@ -4,7 +4,7 @@ ghost use mathlib.Core.List.{[]};
 ghost use mathlib.Core.Path.{_≡_};
 ghost use lib.ListN.{length};
 ghost use lib.Seq.{sets};
-ghost use Rattle.session.specs.Session.{Bounds, FedBy, fed, first, isStopped, lastText, progressOf};
+ghost use Rattle.session.specs.Session.{Bounds, fed, first, isStopped, lastText, progressOf};
 use model::machine::Machine;
 
 mod answer; // what a line is answered, as the listing shows it
@@ -57,8 +57,11 @@ pub fn stopped(s: Session) -> bool
 // Uses as much of a chunk as `out` has room for the records of, and says how much that was: no line is ended while fewer than 84
 // bytes are left. A line that lies whole in the chunk is not copied.
 pub fn feed(start: Session, chunk: &[u8], out: &mut [u8]) -> Fed
-    ensures { λ r. ⌜ FedBy (fed (progressOf start) (now (chunk .entry)) (length (now (out .entry)))) r (now (out .entry)) (now (out .exit)) ⌝ }
-    ensures { λ r. ⌜ Bounds (r .used) (r .wrote) (now (chunk .entry)) (now (out .exit)) ⌝ }
+    ensures session { λ r. ⌜ progressOf (r .session) ≡ fed (progressOf start) (now (chunk .entry)) (length (now (out .entry))) .progress ⌝ }
+    ensures used { λ r. ⌜ r .used ≡ fed (progressOf start) (now (chunk .entry)) (length (now (out .entry))) .used ⌝ }
+    ensures wrote { λ r. ⌜ r .wrote ≡ length (fed (progressOf start) (now (chunk .entry)) (length (now (out .entry))) .text) ⌝ }
+    ensures out { λ _. ⌜ now (out .exit) ≡ sets (now (out .entry)) 0 (fed (progressOf start) (now (chunk .entry)) (length (now (out .entry))) .text) ⌝ }
+    ensures bounds { λ r. ⌜ Bounds (r .used) (r .wrote) (now (chunk .entry)) (now (out .exit)) ⌝ }
 {
     let phase = start.phase;
     if lines::has_stopped(phase) {

@@ -33,7 +33,7 @@ pub struct Written {
 }
 
 // Whether a session is in this phase: stopped after a refused first line, or in a later line.
-pub fn has_stopped(phase: Phase) -> bool
+pub(crate) fn has_stopped(phase: Phase) -> bool
     ensures { λ r. ⌜ r ≡ hasStopped phase ⌝ }
 {
     match phase {
@@ -43,7 +43,7 @@ pub fn has_stopped(phase: Phase) -> bool
     }
 }
 
-pub fn is_later(phase: Phase) -> bool
+pub(crate) fn is_later(phase: Phase) -> bool
     ensures { λ r. ⌜ r ≡ isLater phase ⌝ }
 {
     match phase {
@@ -54,7 +54,7 @@ pub fn is_later(phase: Phase) -> bool
 }
 
 // A session that holds nothing of a line. Its machine has no processor.
-pub fn blank(phase: Phase) -> Session
+pub(crate) fn blank(phase: Phase) -> Session
     ensures { λ r. ⌜ progressOf r ≡ blankIn phase (stateIn r) ⌝ }
 {
     let none = FirstLine {
@@ -93,7 +93,7 @@ fn resume(s: Session, number: u64, machine: Machine, words: [u64; 64]) -> Sessio
 }
 
 // The session with more bytes of a line that has not ended.
-pub fn keep(start: Session, more: &[u8]) -> Session
+pub(crate) fn keep(start: Session, more: &[u8]) -> Session
     ensures { λ r. ⌜ progressOf r ≡ kept (extended (progressOf start) (now (more .entry))) ⌝ }
 {
     let mut s = start;
@@ -185,7 +185,7 @@ fn end_later(s: Session, out: &mut [u8]) -> Written
 }
 
 // Ends the line whose bytes the session holds.
-pub fn end_line(s: Session, out: &mut [u8]) -> Written
+pub(crate) fn end_line(s: Session, out: &mut [u8]) -> Written
     requires { ⌜ 84 ≤ length (now out) ⌝ }
     ensures { λ r. ⌜ EndedBy (ended (progressOf s)) r (now (out .entry)) (now (out .exit)) ⌝ }
 {
@@ -202,7 +202,7 @@ pub fn end_line(s: Session, out: &mut [u8]) -> Written
 
 // Feeds a session that holds no bytes of a line what is left of a chunk from `from` on; the records go into `out` from `at` on.
 // The machine stays in one local, and a line is read where it lies in the chunk.
-pub fn feed_later(start: Session, chunk: &[u8], from: usize, out: &mut [u8], at: usize) -> Fed
+pub(crate) fn feed_later(start: Session, chunk: &[u8], from: usize, out: &mut [u8], at: usize) -> Fed
     requires { ⌜ from ≤ length (now chunk) ⌝ }
     requires { ⌜ at ≤ length (now out) ⌝ }
     ensures { λ r. ⌜ FedFrom from at (fed (later (start .number) (stateIn start) []) (drop from (now (chunk .entry))) (length (now (out .entry)) - at)) r (now (out .entry)) (now (out .exit)) ⌝ }
