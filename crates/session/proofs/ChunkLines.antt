@@ -12,7 +12,7 @@ use lib.ListN.{drop, drop-of-length-le, getD, length, length-drop, length-set, l
 use lib.Seq.{drop-cons, drop-drop, take-all, take-at, take-suc, take-suc-set}
 use Rattle.script.specs.Listing.{lineFeed}
 use Rattle.session.specs.Chunk.{lineEnd, untilFeed}
-use Rattle.session.specs.Listing.{Lines, inFront, linesIn}
+use Rattle.listing.specs.Listing.{Lines, inFront, linesIn}
 use Rattle.session.specs.Session.{held}
 
 -- The end of a line, from a place on: a line feed, another byte, and the chunk's end.

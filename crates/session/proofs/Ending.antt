@@ -35,8 +35,8 @@ use Rattle.model.specs.Step.{step}
 use Rattle.step.specs.declared.Stepped.{Stepped}
 use Rattle.session.specs.declared.Phase.{Phase}
 use Rattle.session.specs.declared.Phase.the-variants as phase
-use Rattle.session.specs.Answer.{answerText, isKnown, levelOn}
-use Rattle.session.specs.Listing.{answered, levelColumn, numberAfter, processorOf, stateBy}
+use Rattle.listing.specs.Answer.{answerText, isKnown, levelOn}
+use Rattle.listing.specs.Listing.{answered, levelColumn, numberAfter, processorOf, stateBy}
 use Rattle.session.specs.Parts.{blankIn, hasStopped, isLater}
 use Rattle.session.specs.Session.{Progress, begun, continued, ended, extended, first, held, isStopped, kept, lastText, later, lentOf, progressIn, roomFor, stopped}
 

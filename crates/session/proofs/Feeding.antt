@@ -18,7 +18,7 @@ use Rattle.script.specs.First.{lineFirst}
 use Rattle.script.specs.Listing.{lineFeed}
 use Rattle.session.specs.declared.Fed.{Fed}
 use Rattle.session.specs.Chunk.{lineEnd}
-use Rattle.session.specs.Listing.{linesIn, stateBy}
+use Rattle.listing.specs.Listing.{linesIn, stateBy}
 use Rattle.session.specs.Parts.{FedFrom}
 use Rattle.session.specs.Session.{Bounds, Ended, Feeding, Progress, begun, ended, extended, fed, fedLines, first, followed, kept, later, progressOf, roomFor, stopped}
 use Rattle.session.proofs.ChunkLines.{end-within, joined, lines-from, lines-last, lines-joined}

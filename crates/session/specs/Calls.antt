@@ -3,7 +3,7 @@ use mathlib.Core.List.{List, [], _∷_, _++_}
 use mathlib.Core.Path.{_≡_}
 use Prim.Native.Nat.{ℕ}
 use lib.ListN.{take}
-use Rattle.session.specs.Listing.{listing}
+use Rattle.listing.specs.Listing.{listing}
 use Rattle.session.specs.Session.{Progress, first, fed, lastText}
 
 -- A call: a chunk, and the length of the buffer that is lent.

@@ -1,8 +1,6 @@
 -- The definitions of a session: a script that comes in chunks, and its listing (01, "Script and listing").
 -- Assumes nothing.
-pub mod Listing  -- the listing of a whole script
 pub mod Session  -- what a session does with a chunk, and at the end
 pub mod Parts  -- what the code's parts give
 pub mod Chunk  -- how the code finds the lines of a chunk
-pub mod Answer  -- how the code makes the record of an answer
 pub mod Calls  -- any run of calls

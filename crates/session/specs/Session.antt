@@ -16,7 +16,7 @@ use Rattle.session.specs.declared.Fed.{Fed}
 use Rattle.session.specs.declared.Phase.{Phase}
 use Rattle.session.specs.declared.Phase.the-variants as phase
 use Rattle.session.specs.declared.Session.{Session}
-use Rattle.session.specs.Listing.{Answered, answered, firstDone, firstRefused, linesIn, numberAfter, recordOf, stateBy}
+use Rattle.listing.specs.Listing.{Answered, answered, firstDone, firstRefused, linesIn, numberAfter, recordOf, stateBy}
 
 -- How far a session has come, with the bytes that it has of a line that has not ended.
 pub data Progress : Type 0 where

@@ -7,7 +7,7 @@ ghost use lib.Seq.{sets};
 ghost use Rattle.session.specs.Session.{Bounds, fed, first, isStopped, lastText, progressOf};
 use model::machine::Machine;
 
-mod answer; // what a line is answered, as the listing shows it
+mod answer; // the record of an answer
 mod chunk; // lines in a chunk
 mod lines; // lines that end
 

@@ -173,12 +173,12 @@ fn end_later(s: Session, out: &mut [u8]) -> Written
         let session = resume(s, next, machine, words);
         return Written { session, wrote };
     };
-    let v = answer::processor_of(e).0;
+    let v = listing::processor_of(e).0;
     let r = step::step(machine, &mut words[..lent], e);
     let after = r.machine;
     let a = r.answer;
     let place = (v % 4) as usize;
-    let active = answer::level_on(v, after.processors, after.vps[place].active.0);
+    let active = listing::level_on(v, after.processors, after.vps[place].active.0);
     let wrote = answer::write_answer(out, 0, number, a, active);
     let session = resume(s, next, after, words);
     Written { session, wrote }
@@ -202,7 +202,13 @@ pub(crate) fn end_line(s: Session, out: &mut [u8]) -> Written
 
 // Feeds a session that holds no bytes of a line what is left of a chunk from `from` on; the records go into `out` from `at` on.
 // The machine stays in one local, and a line is read where it lies in the chunk.
-pub(crate) fn feed_later(start: Session, chunk: &[u8], from: usize, out: &mut [u8], at: usize) -> Fed
+pub(crate) fn feed_later(
+    start: Session,
+    chunk: &[u8],
+    from: usize,
+    out: &mut [u8],
+    at: usize,
+) -> Fed
     requires { ⌜ from ≤ length (now chunk) ⌝ }
     requires { ⌜ at ≤ length (now out) ⌝ }
     ensures { λ r. ⌜ FedFrom from at (fed (later (start .number) (stateIn start) []) (drop from (now (chunk .entry))) (length (now (out .entry)) - at)) r (now (out .entry)) (now (out .exit)) ⌝ }
@@ -238,13 +244,13 @@ pub(crate) fn feed_later(start: Session, chunk: &[u8], from: usize, out: &mut [u
             o = answer::write_answer(out, o, line_number, refused, Level(0));
             continue;
         };
-        let v = answer::processor_of(e).0;
+        let v = listing::processor_of(e).0;
         let r = step::step(machine, &mut words[..lent], e);
         machine = r.machine;
         let a = r.answer;
         // The place for v, which is read only where there is a processor v.
         let place = (v % 4) as usize;
-        let active = answer::level_on(v, machine.processors, machine.vps[place].active.0);
+        let active = listing::level_on(v, machine.processors, machine.vps[place].active.0);
         o = answer::write_answer(out, o, line_number, a, active);
     }
 }

@@ -50,29 +50,30 @@ returns : tie.Need-returns
 returns c =
     let start = c .before .before .before .before in
     let s = start .args .start in
-    fed-whole _ _ _ _ _
+    fed-whole _ _ _ (record { session = s; used = length (start .args .chunk .now); wrote = 0 }) _
     (feeds-stopped (none-fed start) (stopped-in (s .phase) (s .number) (stateIn s) (held (s .line) (s .length)) (sym (c .before .has-stopped .ensures) ∙ c .if1 .taken)) _ refl refl refl)
 
 returns-2 : tie.Need-returns-2
 returns-2 c =
     let rest = c .before .before in
     let test = rest .before .before in
-    let s = test .before .before .before .before .before .before .before .args .start in
-    fed-whole _ _ _ _ _
+    let a = test .before .before .before .before .before .before .before .args in
+    let s = a .start in
+    fed-whole (progressOf s) (a .chunk .now) (a .out .now) (rest .feed-later .result) (rest .feed-later .last .1 .1 .1 .0)
     (rw (later-in (s .phase) (s .number) (stateIn s) (s .line) (s .length) (rw (test .before .before .is-later .ensures) at (test .if2 .taken)))
     (rest .feed-later .ensures))
 
 returns-3 : tie.Need-returns-3
 returns-3 c =
     let found = c .before .before in
-    fed-whole _ _ _ _ _
+    fed-whole _ _ _ (record { session = c .keep .result; used = found .line-end .result; wrote = 0 }) _
     (feeds-last (none-fed (found .before .before .before .before .before .before .before .before)) (found .line-end .result) (found .line-end .ensures) (c .before .if3 .taken) _ (c .keep .ensures) refl refl)
 
 returns-4 : tie.Need-returns-4
 returns-4 c =
     let found = c .before .before in
     let going = found .before .before .before .before in
-    fed-whole _ _ _ _ _
+    fed-whole _ _ _ (record { session = going .before .before .before .before .args .start; used = 0; wrote = 0 }) _
     (feeds-full (none-fed (going .before .before .before .before)) (found .line-end .result) (found .line-end .ensures) (c .before .if3 .left) (rw (roomy going) (omega (arith, c .if4 .taken))) _ refl refl refl)
 
 slice-aggregate-keep : tie.Need-slice-aggregate-keep
@@ -82,7 +83,7 @@ returns-5 : tie.Need-returns-5
 returns-5 c =
     let ended = c .before .before .before .before .before in
     let s = ended .end-line .result .session in
-    fed-whole _ _ _ _ _
+    fed-whole _ _ _ (record { session = s; used = length (ended .before .before .before .before .before .before .before .before .before .before .before .before .before .before .args .chunk .now); wrote = ended .end-line .result .wrote }) _
     (feeds-stopped (one-fed ended) (stopped-in (s .phase) (s .number) (stateIn s) (held (s .line) (s .length)) (sym (c .before .has-stopped2 .ensures) ∙ c .if5 .taken)) _ refl refl refl)
 
 add-feed-later : tie.Need-add-feed-later
@@ -101,7 +102,7 @@ returns-6 c =
     let test = rest .before .before in
     let ended = test .before .before .before .before .before in
     let s = ended .end-line .result .session in
-    fed-whole _ _ _ _ _
+    fed-whole _ _ _ (rest .feed-later2 .result) _
     (feeds-then (one-fed ended) _ _
     (rw (ended-later _ (s .phase) (s .number) (stateIn s) (held (s .line) (s .length)) (sym (test .before .has-stopped2 .ensures) ∙ test .if5 .left) (ended .end-line .ensures .progress))
     (rest .feed-later2 .ensures)))

@@ -1,7 +1,7 @@
 -- `session::answer::level_shown` meets its contract: by its test. Assumes nothing.
 use borrow.Author.Tests.{eq-eqb, ne-eqb}
-use Rattle.session.proofs.answer.level_shown.Statement.{statement}
-use Rattle.session.proofs.answer.level_shown.Tie as tie
+use Rattle.listing.proofs.level_shown.Statement.{statement}
+use Rattle.listing.proofs.level_shown.Tie as tie
 
 returns : tie.Need-returns
 returns c = rw (eq-eqb _ 1 (c .if1 .taken))

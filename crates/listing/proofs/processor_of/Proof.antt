@@ -2,9 +2,9 @@
 -- Assumes nothing.
 use mathlib.Core.Path.{sym, ap}
 use borrow.Author.Needs.{needs}
-use Rattle.session.specs.Listing.{processorOf}
-use Rattle.session.proofs.answer.processor_of.Statement.{statement}
-use Rattle.session.proofs.answer.processor_of.Tie as tie
+use Rattle.listing.specs.Listing.{processorOf}
+use Rattle.listing.proofs.processor_of.Statement.{statement}
+use Rattle.listing.proofs.processor_of.Tie as tie
 
 returns : tie.Need-returns
 returns c = sym (ap processorOf (c .before .e .given .1))

@@ -1,6 +1,6 @@
 -- `session::answer::level_on` meets its contract: by its test. Assumes nothing.
-use Rattle.session.proofs.answer.level_on.Statement.{statement}
-use Rattle.session.proofs.answer.level_on.Tie as tie
+use Rattle.listing.proofs.level_on.Statement.{statement}
+use Rattle.listing.proofs.level_on.Tie as tie
 
 returns : tie.Need-returns
 returns c = rw (c .if1 .taken)
