@@ -3,7 +3,6 @@
 use Prim.Native.Nat.{ℕ}
 use Rattle.model.specs.declared.event.Event.{Event}
 use Rattle.model.specs.declared.event.Event.the-variants as event
-use Rattle.model.specs.declared.quantity.Access.{Access}
 use Rattle.model.specs.declared.quantity.Access.the-variants.{Read, Write, Fetch}
 use Rattle.model.specs.declared.quantity.Processor.{Processor}
 use Rattle.dispatch.specs.declared.request.LevelOperation.the-variants.{Enpart, Protect, Config}

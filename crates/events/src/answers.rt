@@ -1,6 +1,6 @@
 // The answer of an event from its conditions: each stands for one refusal, and the smallest number that applies is given.
 ghost use mathlib.Core.Path.{_≡_};
-ghost use mathlib.Core.Bool.{Bool, true, false, cond};
+ghost use mathlib.Core.Bool.{true, false, cond};
 ghost use Rattle.events.specs.Conditions.{basic, settledLate, settledBy, isDone};
 use model::answer::Answer;
 use model::answer::Refusal;

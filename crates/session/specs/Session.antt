@@ -7,12 +7,10 @@ use mathlib.Core.Path.{_≡_}
 use Prim.Native.Nat.{ℕ, suc, min, _+_, _-_, _≤_}
 use lib.Dec.{eqb, ltb}
 use lib.ListN.{length, take}
-use lib.Seq.{sets}
 use Rattle.model.specs.State.{State}
 use Rattle.script.specs.Events.{lineEvent}
 use Rattle.script.specs.First.{lineFirst}
 use Rattle.step.specs.Stepped.{stateOf}
-use Rattle.session.specs.declared.Fed.{Fed}
 use Rattle.session.specs.declared.Phase.{Phase}
 use Rattle.session.specs.declared.Phase.the-variants as phase
 use Rattle.session.specs.declared.Session.{Session}

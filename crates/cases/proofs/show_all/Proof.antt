@@ -2,7 +2,6 @@
 use Prim.Native.Nat.{_-_, _≤_}
 use borrow.Author.Needs.{needs}
 use lib.ListN.{length}
-use native.Mathlib.Omega.{arith}
 use Rattle.cases.proofs.show_all.Statement.{statement}
 use Rattle.cases.proofs.show_all.Tie as tie
 

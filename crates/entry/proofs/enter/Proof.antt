@@ -1,5 +1,4 @@
 -- `entry::enter` meets its contract: the level's context with the record is put back. Assumes nothing.
-use mathlib.Core.Path.{ap}
 use borrow.Author.Tests.{lt-ltb, le-ltb}
 use Rattle.model.specs.Arrays.{numberAt, stored}
 use Rattle.model.specs.Entry.{enter}

@@ -1,5 +1,4 @@
 -- `access_page` meets its contract: the answer, and what it changes. Assumes nothing.
-use mathlib.Core.Path.{sym, _∙_}
 use borrow.Author.Needs.{needs}
 use Rattle.step.proofs.access_page.Statement.{statement}
 use Rattle.step.proofs.access_page.Tie as tie

@@ -1,7 +1,6 @@
 -- `ruled` meets its contract: the laws of proofs/Whole.antt at each return. Assumes nothing.
-use mathlib.Core.Path.{_≡_, refl, sym, ap, _∙_}
+use mathlib.Core.Path.{_≡_, refl, sym}
 use mathlib.Core.Bool.{Bool, true, false, not, _&&_}
-use Prim.Native.Nat.{_*_, _<_, _^_}
 use native.Mathlib.Omega.{arith}
 use borrow.Author.Needs.{needs}
 use Rattle.step.proofs.Whole.{there, missing, maker-lt, on-lt, vp-left, levels-left, page-left, flush-left, query-left}
