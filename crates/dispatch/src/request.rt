@@ -1,5 +1,5 @@
-// An event by what it changes: who makes it and in which mode, the processor whose record it reads, and one of four operations. So
-// whoever holds a machine goes by four cases and not by nineteen events.
+// An event by what it changes: who makes it and in which mode, the processor whose record it reads, and one of five operations. So
+// whoever holds a machine goes by five cases and not by nineteen events.
 ghost use mathlib.Core.Path.{_≡_};
 ghost use Rattle.dispatch.specs.Request.{requestOf, ownRequest};
 ghost use Rattle.dispatch.specs.declared.request.Operation.the-variants.{OnProcessor, OnLevels, OnPage, OnNothing};
