@@ -1,7 +1,7 @@
 -- Laws of the digits of a number: what stands before its last digit, how many there are, and that each is a digit.
 -- Assumes nothing.
-use Prim.Native.Nat.{ℕ, zero, suc, _+_, _/_, _≤_, _<_, _^_}
-use mathlib.Core.Path.{_≡_, refl, ap}
+use Prim.Native.Nat.{ℕ, zero, suc, _+_, _/_, _%_, _≤_, _<_, _^_}
+use mathlib.Core.Path.{_≡_, refl, ap, _∙_}
 use mathlib.Core.Bool.{Bool, true, false, cond}
 use mathlib.Core.List.{List, [], _∷_}
 use borrow.Author.Tests.{le-ltb, lt-ltb, ltb-true, ltb-false}
@@ -16,6 +16,12 @@ pub one-digit : (spare n : ℕ) (rest : List ℕ) → n < 10 → digitsIn spare 
 unfolding digitsIn
 one-digit zero n rest h = refl
 one-digit (suc spare) n rest h = rw (lt-ltb n 10 h)
+
+pub only-digit : (n : ℕ) → n < 10 → decimal n ≡ (48 + n) ∷ []
+unfolding digitsBefore
+only-digit n h =
+    let e : n % 10 ≡ n = omega arith in
+    one-digit 19 n [] h ∙ rw e
 
 -- Room for one digit more than there are changes nothing.
 spared : (spare n : ℕ) (rest : List ℕ) → n < 10 ^ suc spare → digitsIn spare n rest ≡ digitsIn (suc spare) n rest

@@ -1,6 +1,6 @@
 -- Laws of the writer's loop, which stores the digits of a number from the last to the first.
 -- They keep its invariant, `Writing`, and say what the buffer holds at its end. Assumes nothing.
-use Prim.Native.Nat.{ℕ, suc, _+_, _-_, _/_, _≤_, _<_, _^_}
+use Prim.Native.Nat.{ℕ, suc, _+_, _-_, _*_, _/_, _≤_, _<_, _^_}
 use mathlib.Core.Path.{_≡_, refl, sym, ap, _∙_}
 use mathlib.Core.List.{List, [], _∷_}
 use native.Mathlib.Omega.{arith}
@@ -8,6 +8,10 @@ use lib.ListN.{length, set}
 use lib.Seq.{length-sets, set-comm, sets}
 use Rattle.decimal.specs.Write.{decimal, digitsBefore, lastByte}
 use Rattle.decimal.proofs.Digits.{last-digit, one-digit, some-digit}
+
+-- The last digit is what a number is above ten times its tenth.
+pub above-tens : (n : ℕ) → 48 + (n - n / 10 * 10) ≡ lastByte n
+above-tens n = omega arith
 
 -- A store in front of a run of stores.
 set-sets : (l : List ℕ) (i j a : ℕ) (vs : List ℕ) → i < j → set (sets l j vs) i a ≡ sets (set l i a) j vs

@@ -18,16 +18,14 @@ const LARGEST: u64 = 18446744073709551615;
 fn digit(byte: u8) -> Number
     ensures { λ r. ⌜ r ≡ digitOf byte ⌝ }
 {
-    if byte < b'0' {
-        return Number::Malformed;
+    let code = byte as u64;
+    if (48 <= code) & (code <= 57) {
+        return Number::Value(code - 48);
     }
-    if b'9' < byte {
-        return Number::Malformed;
-    }
-    Number::Value((byte - b'0') as u64)
+    Number::Malformed
 }
 
-// The number `value` with the digit `byte` after it.
+// The number `value` with the digit `byte` after it. Most numbers are far below the largest, and are known by two tests.
 fn extend(value: u64, byte: u8) -> Number
     ensures { λ r. ⌜ r ≡ extended value byte ⌝ }
 {
@@ -37,14 +35,16 @@ fn extend(value: u64, byte: u8) -> Number
     if value == 0 {
         return Number::Malformed;
     }
+    if value < LARGEST / 10 {
+        return Number::Value(value * 10 + last);
+    }
     if LARGEST / 10 < value {
         return Number::Malformed;
     }
-    let tens = value * 10;
-    if LARGEST - tens < last {
+    if LARGEST % 10 < last {
         return Number::Malformed;
     }
-    Number::Value(tens + last)
+    Number::Value(value * 10 + last)
 }
 
 // The number that the whole field says.
@@ -85,9 +85,8 @@ pub fn digit_count(value: u64) -> usize
     count
 }
 
-// Writes `value` into `out` from `at` on, its last digit first, and returns the place after it. Where it has no room, nothing is
-// written, and `at` is returned.
-pub fn write(out: &mut [u8], at: usize, value: u64) -> usize
+// Writes a number of several digits, its last digit first.
+fn write_long(out: &mut [u8], at: usize, value: u64) -> usize
     ensures { λ r. ⌜ r ≡ afterText (now (out .entry)) at (decimal value) ⌝ }
     ensures { λ _. ⌜ now (out .exit) ≡ withText (now (out .entry)) at (decimal value) ⌝ }
 {
@@ -102,11 +101,28 @@ pub fn write(out: &mut [u8], at: usize, value: u64) -> usize
     let mut i = end;
     let mut rest = value;
     loop {
+        let tenth = rest / 10;
         i -= 1;
-        out[i] = b'0' + (rest % 10) as u8;
+        out[i] = b'0' + (rest - tenth * 10) as u8;
         if rest < 10 {
             return end;
         }
-        rest = rest / 10;
+        rest = tenth;
     }
+}
+
+// Writes `value` into `out` from `at` on, and returns the place after it. Where it has no room, nothing is written, and `at` is
+// returned. Most numbers have one digit.
+pub fn write(out: &mut [u8], at: usize, value: u64) -> usize
+    ensures { λ r. ⌜ r ≡ afterText (now (out .entry)) at (decimal value) ⌝ }
+    ensures { λ _. ⌜ now (out .exit) ≡ withText (now (out .entry)) at (decimal value) ⌝ }
+{
+    if 9 < value {
+        return write_long(out, at, value);
+    }
+    if out.len() <= at {
+        return at;
+    }
+    out[at] = b'0' + value as u8;
+    at + 1
 }

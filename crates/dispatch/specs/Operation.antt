@@ -17,7 +17,7 @@ use Rattle.model.specs.Bounded.{bits, any}
 use Rattle.model.specs.State.{noVp, pastVp, isLevel, enabledAt, secureOf, mbecBit, lockBit}
 use Rattle.partition.specs.Parts.{enabledIn, mbecIn}
 use Rattle.events.specs.declared.scope.Scope.{Scope}
-use Rattle.events.specs.declared.scope.VpStep.{VpStep}
+use Rattle.events.specs.Scope.{VpStep}
 use Rattle.events.specs.Access.{accessAnswer}
 use Rattle.events.specs.Levels.{enpartAnswer, enpartLevels, protectAnswer, configAnswer, configLevels, configMasks}
 use Rattle.processor_events.specs.Events.{callIn, retIn, secureIn, rregIn, wregIn, tprIn, ackIn, envpIn, intIn}

@@ -7,6 +7,7 @@ ghost use Rattle.events.specs.Conditions.{ifDone};
 ghost use Rattle.model.specs.Bounded.{bits, any};
 ghost use Rattle.model.specs.State.{isLevel, noVp, secureOf, lockBit};
 ghost use Rattle.word.specs.Field.{bit};
+ghost use Rattle.processor.specs.Record.{vpOf, vpsOf};
 ghost use Rattle.dispatch.specs.Operation.{scopeIn, onProcessor, levelAnswer, levelRecords, levelMasks, accessValue, pageIn, wordsDone, lockedIn, queryAnswer};
 use crate::request::LevelOperation;
 use crate::request::ProcessorOperation;
@@ -17,7 +18,6 @@ use events::level_events::config;
 use events::level_events::enpart;
 use events::level_events::protect;
 use events::scope::Scope;
-use events::scope::VpStep;
 use events::status_events::capability_word;
 use events::status_events::partition_word;
 use events::status_events::processor_word;
@@ -25,15 +25,15 @@ use events::status_events::status;
 use model::answer::Answer;
 use model::machine::PartitionLevel;
 use model::machine::Shape;
-use model::machine::VirtualProcessor;
 use model::quantity::Access;
 use model::quantity::Page;
 use model::quantity::Processor;
 use model::set::level_set;
 use partition::level::enabled_level_set;
 use partition::level::mbec_level_set;
-use processor::context::enabled_set;
-use processor::context::is_level;
+use processor::record::Record;
+use processor::record::enabled_set;
+use processor::record::is_level;
 use processor::secure::holds_lock;
 use processor::secure::mbec_set;
 use processor_events::ack;
@@ -66,16 +66,16 @@ pub fn scope(
     }
 }
 
-// An operation on the record p of processor w.
+// An operation on the record p of processor w, which changes in place.
 pub fn on_processor(
     c: Scope,
-    p: VirtualProcessor,
+    p: &mut Record,
     v: Processor,
     mode: u64,
     w: Processor,
     x: ProcessorOperation,
-) -> VpStep
-    ensures { λ r. ⌜ r ≡ onProcessor c p (v .0) mode (w .0) x ⌝ }
+) -> Answer
+    ensures { λ r. ⌜ record { answer = r; vp = vpOf (now (p .exit)) } ≡ onProcessor c (vpOf (now (p .entry))) (v .0) mode (w .0) x ⌝ }
 {
     match x {
         ProcessorOperation::Envp {
@@ -145,7 +145,7 @@ pub fn access_value(access: Access, word: u64) -> u64
 // The answer of an access to a page, with the record p of the maker's processor and the words that are lent.
 pub fn on_page(
     c: Scope,
-    p: VirtualProcessor,
+    p: &Record,
     levels: [PartitionLevel; 4],
     masks: &[u64; 256],
     host_mask: u64,
@@ -155,7 +155,7 @@ pub fn on_page(
     page: Page,
     kind: Access,
 ) -> Answer
-    ensures { λ r. ⌜ r ≡ pageIn c p levels (now (masks .entry)) «host_mask» (now (words .entry)) (v .0) mode (page .0) kind ⌝ }
+    ensures { λ r. ⌜ r ≡ pageIn c (vpOf (now (p .entry))) levels (now (masks .entry)) «host_mask» (now (words .entry)) (v .0) mode (page .0) kind ⌝ }
 {
     let mbecs = mbec_set(c.shape, p, c.actor);
     let on = enabled_set(c.shape, p);
@@ -192,21 +192,21 @@ pub fn store_word(words: &mut [u64], page: Page, kind: Access, value: u64)
 }
 
 // Does a level hold a TLB lock on level l, if there is a processor with that record?
-fn lock_at(known: bool, z: Shape, p: VirtualProcessor, l: u64) -> bool
-    ensures { λ r. ⌜ r ≡ any 4 (λ t. bit (secureOf z (cond known p noVp) t l) lockBit) ⌝ }
+fn lock_at(known: bool, z: Shape, p: &Record, l: u64) -> bool
+    ensures { λ r. ⌜ r ≡ any 4 (λ t. bit (secureOf z (cond known (vpOf (now (p .entry))) noVp) t l) lockBit) ⌝ }
 {
     let held = holds_lock(z, p, l);
     known & held
 }
 
 // flush: does a level hold a TLB lock on level l on any processor?
-pub fn locked(z: Shape, processors: u64, vps: [VirtualProcessor; 4], l: u64) -> bool
-    ensures { λ r. ⌜ r ≡ lockedIn z processors vps l ⌝ }
+pub fn locked(z: Shape, processors: u64, vps: &[Record; 4], l: u64) -> bool
+    ensures { λ r. ⌜ r ≡ lockedIn z processors (vpsOf (now (vps .entry))) l ⌝ }
 {
-    let zeroth = lock_at(0 < processors, z, vps[0], l);
-    let first = lock_at(1 < processors, z, vps[1], l);
-    let second = lock_at(2 < processors, z, vps[2], l);
-    let third = lock_at(3 < processors, z, vps[3], l);
+    let zeroth = lock_at(0 < processors, z, &vps[0], l);
+    let first = lock_at(1 < processors, z, &vps[1], l);
+    let second = lock_at(2 < processors, z, &vps[2], l);
+    let third = lock_at(3 < processors, z, &vps[3], l);
     zeroth | first | second | third
 }
 
@@ -218,8 +218,8 @@ fn levels_above_zero(z: Shape) -> u64
 }
 
 // What is asked of the record p of the maker's processor, or of the scope.
-pub fn queried(c: Scope, p: VirtualProcessor, v: Processor, mode: u64, x: Query) -> Answer
-    ensures { λ r. ⌜ r ≡ queryAnswer c p (v .0) mode x ⌝ }
+pub fn queried(c: Scope, p: &Record, v: Processor, mode: u64, x: Query) -> Answer
+    ensures { λ r. ⌜ r ≡ queryAnswer c (vpOf (now (p .entry))) (v .0) mode x ⌝ }
 {
     match x {
         Query::Rreg { target, register } => rreg(c, p, v, mode, target, register),

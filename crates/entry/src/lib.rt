@@ -1,43 +1,45 @@
-// What moves a processor from level to level (01, "Events"): entry, call, return, an interrupt, and the start of a level.
+// What moves a processor from level to level (01, "Events"): entry, VTL call, VTL return and an interrupt. The record is lent and
+// changed in place.
 ghost use mathlib.Core.Path.{_≡_};
 ghost use mathlib.Core.Bool.{cond, _&&_, not};
 ghost use lib.Dec.{ltb, eqb};
-ghost use Rattle.model.specs.Entry.{byCall, enter, highestReady, nextUp, advanced, called, restored, left, reentered, returned, interrupted, started};
-ghost use Rattle.model.specs.State.{activeOf, context};
-use model::machine::Context;
+ghost use Rattle.model.specs.Entry.{byCall, enter, highestReady, nextUp, advanced, left, reentered, returned, interrupted};
+ghost use Rattle.model.specs.Registers.{rax, rcx, sharedOf};
+ghost use Rattle.model.specs.State.{activeOf, context, enabledAt};
+ghost use Rattle.model.specs.Updates.{setShared};
+ghost use Rattle.processor.specs.Record.{vpOf};
 use model::machine::Control;
 use model::machine::Shape;
-use model::machine::VirtualProcessor;
 use model::quantity::Level;
-use processor::context::is_level;
-use processor::context::known_context;
+use processor::control::control_of;
+use processor::control::set_control;
 use processor::interrupt::enters;
 use processor::interrupt::highest_ready;
 use processor::interrupt::set_pending;
-use processor::secure::unlocked;
+use processor::record::Record;
+use processor::record::active_of;
+use processor::record::enabled_at;
+use processor::record::set_active;
+use processor::register::private_of;
+use processor::register::set_private;
+use processor::register::set_shared;
+use processor::register::shared_of;
+use processor::secure::unlock;
 use std::num::wrapping_add_u64;
 
-// Level l entered: its record gets the reason, the level left, and RAX and RCX as they stand. No other register changes.
-pub fn enter(z: Shape, mut p: VirtualProcessor, l: u64, reason: u64) -> VirtualProcessor
-    ensures { λ r. ⌜ r ≡ enter z p l reason ⌝ }
+// Enters level l: its record gets the reason, the level left, and RAX and RCX as they stand. No other register changes.
+pub fn enter(z: Shape, p: &mut Record, l: u64, reason: u64)
+    ensures { λ _. ⌜ vpOf (now (p .exit)) ≡ enter z (vpOf (now (p .entry))) l reason ⌝ }
 {
-    let from = p.active;
+    let from = Level(active_of(p));
     let control = Control {
         reason,
         from,
-        rax: p.shared[1],
-        rcx: p.shared[2],
+        rax: shared_of(p, 13),
+        rcx: shared_of(p, 14),
     };
-    let active = Level(l);
-    p.active = active;
-    if l >= 4 {
-        return p;
-    }
-    let i = l as usize;
-    let mut c = known_context(is_level(z, l), p.contexts[i]);
-    c.control = control;
-    p.contexts[i] = c;
-    p
+    set_control(z, p, l, control);
+    set_active(p, l);
 }
 
 // The least of the levels 1 to 3 that is chosen; 4 if none is.
@@ -67,166 +69,106 @@ fn highest_of(one: bool, two: bool, three: bool) -> u64
 }
 
 // The next enabled level above the active one; 4 if there is none.
-pub fn next_up(z: Shape, p: VirtualProcessor) -> u64
-    ensures { λ r. ⌜ r ≡ nextUp z p ⌝ }
+pub fn next_up(z: Shape, p: &Record) -> u64
+    ensures { λ r. ⌜ r ≡ nextUp z (vpOf (now (p .entry))) ⌝ }
 {
-    let a = p.active.0;
+    let a = active_of(p);
     least_of(
-        (a < 1) & (is_level(z, 1) & p.contexts[1].enabled),
-        (a < 2) & (is_level(z, 2) & p.contexts[2].enabled),
-        (a < 3) & (is_level(z, 3) & p.contexts[3].enabled),
+        (a < 1) & enabled_at(z, p, 1),
+        (a < 2) & enabled_at(z, p, 2),
+        (a < 3) & enabled_at(z, p, 3),
     )
 }
 
-// The active level's RIP moved on by the length, modulo 2^64.
-fn advanced(z: Shape, mut p: VirtualProcessor, length: u64) -> VirtualProcessor
-    ensures { λ r. ⌜ r ≡ advanced z p length ⌝ }
+// Moves the active level's RIP on by the length, modulo 2^64.
+fn advance(z: Shape, p: &mut Record, length: u64)
+    ensures { λ _. ⌜ vpOf (now (p .exit)) ≡ advanced z (vpOf (now (p .entry))) length ⌝ }
 {
-    let l = p.active.0;
-    if l >= 4 {
-        return p;
-    }
-    let i = l as usize;
-    let mut c = known_context(is_level(z, l), p.contexts[i]);
-    let rip = wrapping_add_u64(c.registers[0], length);
-    c.registers[0] = rip;
-    p.contexts[i] = c;
-    p
+    let l = active_of(p);
+    let rip = wrapping_add_u64(private_of(z, p, l, 0), length);
+    set_private(z, p, l, 0, rip);
 }
 
-// call: the caller's RIP moves on, and the next enabled level up is entered, reason 1.
-pub fn called(z: Shape, p: VirtualProcessor, length: u64) -> VirtualProcessor
-    ensures { λ r. ⌜ r ≡ called z p length ⌝ }
+// call: the caller's RIP moves on, and level l is entered, reason 1.
+pub fn vtl_call(z: Shape, p: &mut Record, l: u64, length: u64)
+    ensures { λ _. ⌜ vpOf (now (p .exit)) ≡ enter z (advanced z (vpOf (now (p .entry))) length) l byCall ⌝ }
 {
-    let a = p.active.0;
-    let l = least_of(
-        (a < 1) & (is_level(z, 1) & p.contexts[1].enabled),
-        (a < 2) & (is_level(z, 2) & p.contexts[2].enabled),
-        (a < 3) & (is_level(z, 3) & p.contexts[3].enabled),
-    );
-    enter(z, advanced(z, p, length), l, 1)
+    advance(z, p, length);
+    enter(z, p, l, 1);
 }
 
 // ret: the actor's RIP moves on if its reason is 1.
-fn advanced_after_call(z: Shape, p: VirtualProcessor, length: u64) -> VirtualProcessor
-    ensures { λ r. ⌜ r ≡ cond (eqb (context z p (activeOf p) .control .reason) byCall) (advanced z p length) p ⌝ }
+fn advance_after_call(z: Shape, p: &mut Record, length: u64)
+    ensures { λ _. ⌜ (let q = vpOf (now (p .entry)) in vpOf (now (p .exit)) ≡ cond (eqb (context z q (activeOf q) .control .reason) byCall) (advanced z q length) q) ⌝ }
 {
-    let l = p.active.0;
-    let i = (l % 4) as usize;
-    let c = known_context(is_level(z, l), p.contexts[i]);
-    if c.control.reason == 1 {
-        return advanced(z, p, length);
+    let control = control_of(z, p, active_of(p));
+    if control.reason == 1 {
+        advance(z, p, length);
     }
-    p
 }
 
-// With RCX 0, RAX and RCX restored from the active level's record. RCX 1 is the fast return, which keeps both.
-fn restored(z: Shape, mut p: VirtualProcessor) -> VirtualProcessor
-    ensures { λ r. ⌜ r ≡ restored z p ⌝ }
+// With RCX 0, restores RAX and RCX from a control record. RCX 1 is the fast return, which keeps both.
+fn restore(p: &mut Record, k: Control)
+    ensures { λ _. ⌜ (let q = vpOf (now (p .entry)) in vpOf (now (p .exit)) ≡ cond (eqb (sharedOf q rcx) 0) (setShared (setShared q rax (k .rax)) rcx (k .rcx)) q) ⌝ }
 {
-    if p.shared[2] != 0 {
-        return p;
+    if shared_of(p, 14) == 0 {
+        set_shared(p, 13, k.rax);
+        set_shared(p, 14, k.rcx);
     }
-    let l = p.active.0;
-    let i = (l % 4) as usize;
-    let c = known_context(is_level(z, l), p.contexts[i]);
-    p.shared[1] = c.control.rax;
-    p.shared[2] = c.control.rcx;
-    p
 }
 
-// ret: RAX and RCX restored, and the level that the active one was entered from made active.
-fn left(z: Shape, p: VirtualProcessor) -> VirtualProcessor
-    ensures { λ r. ⌜ r ≡ left z p ⌝ }
+// ret: RAX and RCX are restored, and the level that the active one was entered from becomes active.
+fn leave(z: Shape, p: &mut Record)
+    ensures { λ _. ⌜ vpOf (now (p .exit)) ≡ left z (vpOf (now (p .entry))) ⌝ }
 {
-    let l = p.active.0;
-    let i = (l % 4) as usize;
-    let c = known_context(is_level(z, l), p.contexts[i]);
-    let from = Level(c.control.from.0);
-    let mut q = restored(z, p);
-    q.active = from;
-    q
+    let control = control_of(z, p, active_of(p));
+    restore(p, control);
+    set_active(p, control.from.0);
 }
 
-// Is a level l above the active one enabled, with a ready vector?
-fn is_waiting(a: u64, l: u64, c: Context) -> bool
-    ensures { λ r. ⌜ r ≡ (ltb a l && c .enabled && not (eqb (highestReady c) 0)) ⌝ }
+// Is level l above level a enabled, with a ready vector?
+fn is_waiting(z: Shape, p: &Record, a: u64, l: u64) -> bool
+    ensures { λ r. ⌜ (let q = vpOf (now (p .entry)) in r ≡ (ltb a l && enabledAt z q l && not (eqb (highestReady (context z q l)) 0))) ⌝ }
 {
-    if (a < l) & c.enabled {
-        return highest_ready(c) != 0;
+    if (a < l) & enabled_at(z, p, l) {
+        return highest_ready(z, p, l) != 0;
     }
     false
 }
 
 // ret: of the higher levels that are enabled with a ready vector, the highest is entered, reason 2.
-fn reentered(z: Shape, p: VirtualProcessor) -> VirtualProcessor
-    ensures { λ r. ⌜ r ≡ reentered z p ⌝ }
+fn reenter(z: Shape, p: &mut Record)
+    ensures { λ _. ⌜ vpOf (now (p .exit)) ≡ reentered z (vpOf (now (p .entry))) ⌝ }
 {
-    let a = p.active.0;
-    let one = is_waiting(a, 1, known_context(is_level(z, 1), p.contexts[1]));
-    let two = is_waiting(a, 2, known_context(is_level(z, 2), p.contexts[2]));
-    let three = is_waiting(a, 3, known_context(is_level(z, 3), p.contexts[3]));
+    let a = active_of(p);
+    let one = is_waiting(z, p, a, 1);
+    let two = is_waiting(z, p, a, 2);
+    let three = is_waiting(z, p, a, 3);
     let l = highest_of(one, two, three);
-    if l == 0 {
-        return p;
+    if l != 0 {
+        enter(z, p, l, 2);
     }
-    enter(z, p, l, 2)
 }
 
 // ret: the actor's RIP moves on if it was called, its TLB locks are cleared, RAX and RCX are restored, the level that it was
 // entered from becomes active, and then a higher level with a ready vector is entered.
-pub fn returned(z: Shape, p: VirtualProcessor, length: u64) -> VirtualProcessor
-    ensures { λ r. ⌜ r ≡ returned z p length ⌝ }
+pub fn vtl_return(z: Shape, p: &mut Record, length: u64)
+    ensures { λ _. ⌜ vpOf (now (p .exit)) ≡ returned z (vpOf (now (p .entry))) length ⌝ }
 {
-    let l = p.active.0;
-    let q = advanced_after_call(z, p, length);
-    reentered(z, left(z, unlocked(z, q, l)))
+    let l = active_of(p);
+    advance_after_call(z, p, length);
+    unlock(z, p, l);
+    leave(z, p);
+    reenter(z, p);
 }
 
-// int: vector n of level g made pending; g is entered, reason 2, if it is above the active level and the vector is ready.
-pub fn interrupted(z: Shape, p: VirtualProcessor, g: u64, n: u64) -> VirtualProcessor
-    ensures { λ r. ⌜ r ≡ interrupted z p g n ⌝ }
+// int: vector n of level g becomes pending; g is entered, reason 2, if it is above the active level and the vector is ready.
+pub fn interrupt(z: Shape, p: &mut Record, g: u64, n: u64)
+    ensures { λ _. ⌜ vpOf (now (p .exit)) ≡ interrupted z (vpOf (now (p .entry))) g n ⌝ }
 {
     let entering = enters(z, p, g, n);
-    let q = set_pending(z, p, g, n, 1);
+    set_pending(z, p, g, n, 1);
     if entering {
-        return enter(z, q, g, 2);
+        enter(z, p, g, 2);
     }
-    q
-}
-
-// envp: level t made enabled, with RIP, RSP and CR0 as given, its other private registers 0, TPR 0, nothing pending, and an
-// empty record. What it holds of lower levels stays.
-pub fn started(
-    z: Shape,
-    mut p: VirtualProcessor,
-    t: u64,
-    ip: u64,
-    sp: u64,
-    cr: u64,
-) -> VirtualProcessor
-    ensures { λ r. ⌜ r ≡ started z p t ip sp cr ⌝ }
-{
-    if t >= 4 {
-        return p;
-    }
-    let i = t as usize;
-    let c = known_context(is_level(z, t), p.contexts[i]);
-    let secure = c.secure;
-    let control = Control {
-        reason: 0,
-        from: Level(0),
-        rax: 0,
-        rcx: 0,
-    };
-    let new = Context {
-        registers: [ip, sp, 0, cr, 0, 0, 0, 0, 0, 0, 0, 0, 0],
-        tpr: 0,
-        pending: [0; 4],
-        enabled: true,
-        secure,
-        control,
-    };
-    p.contexts[i] = new;
-    p
 }

@@ -9,7 +9,6 @@ use Rattle.model.specs.State.{State, processors, pages, shape, active, enabledF
 use Rattle.model.specs.Step.{Outcome}
 use Rattle.model.specs.Updates.{putVp}
 use Rattle.events.specs.declared.scope.Scope.{Scope}
-use Rattle.events.specs.declared.scope.VpStep.{VpStep}
 use Rattle.events.specs.Conditions.{ifDone}
 
 -- The scope of an event that processor v makes in a state.
@@ -22,6 +21,11 @@ scopeOf s v = record {
   enabled = bits 4 (λ l. enabledFor s l);
   mbec = bits 4 (λ l. mbecFor s l);
 }
+
+-- An event that changes one processor's record: its answer, and the record after it.
+pub record VpStep : Type 0 where
+  pub answer : Answer
+  pub vp : VirtualProcessor
 
 -- The record changes only where the event is done.
 abbrev pub settled : Answer → VirtualProcessor → VirtualProcessor → VpStep

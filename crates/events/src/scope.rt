@@ -1,9 +1,7 @@
 // What an event is decided from, beside the record that it changes: numbers only, so that deciding copies nothing.
 ghost use mathlib.Core.Path.{_≡_};
 ghost use Rattle.events.specs.Scope.{unmade};
-use model::answer::Answer;
 use model::machine::Shape;
-use model::machine::VirtualProcessor;
 use model::quantity::Processor;
 
 pub struct Scope {
@@ -15,12 +13,6 @@ pub struct Scope {
     // The set of the levels that are enabled for the partition, and of those that it has MBEC for.
     pub enabled: u64,
     pub mbec: u64,
-}
-
-// An event that changes one processor's record: its answer, and the record after it.
-pub struct VpStep {
-    pub answer: Answer,
-    pub vp: VirtualProcessor,
 }
 
 // Is processor v not there, or the mode neither 0 nor 1?

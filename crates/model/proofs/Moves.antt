@@ -7,7 +7,7 @@ use mathlib.Core.Option.{Option, none, some}
 use Prim.Native.Nat.{ℕ, zero, suc, _+_, _*_, _≤_, _<_}
 use native.Mathlib.Omega.{arith}
 use lib.Dec.{leb, ltb, eqb}
-use lib.ListN.{length, getD, length-set}
+use lib.ListN.{length, getD, set, length-set}
 use lib.Seq.{getD-set-other}
 use borrow.Author.Tests.{lt-ltb, lt-leb, eq-eqb, ltb-true, ltb-false, leb-true, not-false}
 use Rattle.word.specs.Field.{bit}
@@ -29,7 +29,7 @@ use Rattle.model.specs.Step.{rule, maker, intercepted, nextFor, step}
 use Rattle.model.specs.Updates.{withControl, withActive, withConfig, withEnabled, putContext, setShared, setPrivate, setRegister, setTpr, setPending, setSecure, unlocked, putVp, putLevel, putMasks, setMask, filled, fillMasks, setWord}
 use Rattle.model.specs.WellFormed.{wellModed, wellFormed}
 use Rattle.model.proofs.Answers.{Passed, step-cases}
-use Rattle.model.proofs.Arrays.{stored-cases, number-cases}
+use Rattle.model.proofs.Arrays.{set-cases, stored-cases, number-cases}
 use Rattle.model.proofs.Bools.{and-left, and-right, and-not, implied, implies-test, cond-holds}
 use Rattle.model.proofs.Bounded.{every-at, every-all, any-cong}
 use Rattle.model.specs.Hide.{closed, hides}
@@ -37,13 +37,15 @@ use Rattle.model.specs.Hide.{quietMaker}
 use Rattle.model.proofs.Steps.{maker-low, open-page, read-of-write}
 
 -- What holds of an old record, and of the new one at its own place, holds of what is read after the record is put.
-pub context-cases : (P : Context → Type 0) (z : Shape) (p : VirtualProcessor) (l j : ℕ) (c : Context) → P (context z p j) → (j ≡ l → P c) → P (context z (putContext p l c) j)
+pub context-cases : (P : Context → Type 0) (z : Shape) (p : VirtualProcessor) (l j : ℕ) (c : Context) → P (context z p j) → (j ≡ l → P c) → P (context z (putContext z p l c) j)
 unfolding context putContext
-context-cases P z p l j c h k = go (isLevel z j) h
+context-cases P z p l j c h k = go (isLevel z j) (isLevel z l) h
   where
-    go : (b : Bool) → P (cond b (getD (p .contexts) j pastContext) noContext) → P (cond b (getD (stored 4 (p .contexts) l c) j pastContext) noContext)
-    go true q = stored-cases P 4 (p .contexts) l j c pastContext q k
-    go false q = q
+    go : (b a : Bool) → P (cond b (getD (p .contexts) j pastContext) noContext)
+        → P (cond b (getD (cond a (set (p .contexts) l c) (p .contexts)) j pastContext) noContext)
+    go true true q = set-cases P (p .contexts) l j c pastContext q k
+    go true false q = q
+    go false a q = q
 
 pub vp-cases : (P : VirtualProcessor → Type 0) (s : State) (v w : ℕ) (p : VirtualProcessor) → P (vp s w) → (w ≡ v → P p) → P (vp (putVp s v p) w)
 unfolding vp putVp isProcessor processors
@@ -104,11 +106,11 @@ module _ (K : ℕ) where
     then-all : (p q r : VirtualProcessor) → TurnedAll p q → TurnedAll q r → TurnedAll p r
     then-all p q r a b l = then-turned l (context z p l) (context z q l) (context z r l) (a l) (b l)
 
-    put-turned : (p : VirtualProcessor) (l : ℕ) (c : Context) → Turned K l (context z p l) c → TurnedAll p (putContext p l c)
+    put-turned : (p : VirtualProcessor) (l : ℕ) (c : Context) → Turned K l (context z p l) c → TurnedAll p (putContext z p l c)
     put-turned p l c t j = context-cases (λ d. Turned K j (context z p j) d) z p l j c (same-turned j (context z p j)) (λ e. rw e t)
 
     -- An update of a context that keeps registers and enabled.
-    quiet-put : (p : VirtualProcessor) (l : ℕ) (c : Context) → c .enabled ≡ context z p l .enabled → c .registers ≡ context z p l .registers → TurnedAll p (putContext p l c)
+    quiet-put : (p : VirtualProcessor) (l : ℕ) (c : Context) → c .enabled ≡ context z p l .enabled → c .registers ≡ context z p l .registers → TurnedAll p (putContext z p l c)
     quiet-put p l c a b = put-turned p l c (quiet-turned l (context z p l) c a b)
 
     setShared-turned : (p : VirtualProcessor) (r x : ℕ) → TurnedAll p (setShared p r x)

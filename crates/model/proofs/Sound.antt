@@ -98,24 +98,24 @@ module _ (z : Shape) (on mbec : ℕ → Bool) where
     pub each : (l : ℕ) → l < 4 → SoundContext l (on l) (mbec l) (enabledAt z p) (context z p l)
 
   -- A context put in place of one that it leaves enabled.
-  put-more : (p : VirtualProcessor) (l : ℕ) (c : Context) → (enabledAt z p l ≡ true → c .enabled ≡ true) → (i : ℕ) → enabledAt z p i ≡ true → enabledAt z (putContext p l c) i ≡ true
+  put-more : (p : VirtualProcessor) (l : ℕ) (c : Context) → (enabledAt z p l ≡ true → c .enabled ≡ true) → (i : ℕ) → enabledAt z p i ≡ true → enabledAt z (putContext z p l c) i ≡ true
   unfolding enabledAt
   put-more p l c f i h = context-cases (λ d. d .enabled ≡ true) z p l i c h (λ e. f (rw e at h))
 
-  put-sound : (p : VirtualProcessor) (l : ℕ) (c : Context) → SoundVp p → (enabledAt z p l ≡ true → c .enabled ≡ true) → SoundContext l (on l) (mbec l) (enabledAt z p) c → SoundVp (putContext p l c)
+  put-sound : (p : VirtualProcessor) (l : ℕ) (c : Context) → SoundVp p → (enabledAt z p l ≡ true → c .enabled ≡ true) → SoundContext l (on l) (mbec l) (enabledAt z p) c → SoundVp (putContext z p l c)
   put-sound p l c g f h = record {
     base = put-more p l c f 0 (g .base);
     current = rw (active-put p l c) (put-more p l c f (activeOf p) (g .current));
-    each = λ j i. sound-more j (on j) (on j) (mbec j) (mbec j) (enabledAt z p) (enabledAt z (putContext p l c)) (context z (putContext p l c) j) (λ e. e) (λ e. e) (put-more p l c f)
+    each = λ j i. sound-more j (on j) (on j) (mbec j) (mbec j) (enabledAt z p) (enabledAt z (putContext z p l c)) (context z (putContext z p l c) j) (λ e. e) (λ e. e) (put-more p l c f)
         (context-cases (λ d. SoundContext j (on j) (mbec j) (enabledAt z p) d) z p l j c (g .each j i) (λ e. rw e h));
   }
     where
-      active-put : (p : VirtualProcessor) (l : ℕ) (c : Context) → activeOf (putContext p l c) ≡ activeOf p
+      active-put : (p : VirtualProcessor) (l : ℕ) (c : Context) → activeOf (putContext z p l c) ≡ activeOf p
       active-put p l c = unfold activeOf putContext in refl
 
   -- An update of an enabled level's context, or of any that keeps it enabled or not.
   alter-sound : (p : VirtualProcessor) (l : ℕ) (c : Context) → isLevel z l ≡ true → c .enabled ≡ context z p l .enabled → SoundVp p →
-      (SoundContext l (on l) (mbec l) (enabledAt z p) (context z p l) → SoundContext l (on l) (mbec l) (enabledAt z p) c) → SoundVp (putContext p l c)
+      (SoundContext l (on l) (mbec l) (enabledAt z p) (context z p l) → SoundContext l (on l) (mbec l) (enabledAt z p) c) → SoundVp (putContext z p l c)
   unfolding enabledAt isLevel
   alter-sound p l c i e g f = put-sound p l c g (λ h. e ∙ h) (f (g .each l (ltb-true l 4 (and-right (leb l (top z)) (ltb l 4) i))))
 
@@ -210,7 +210,7 @@ module _ (z : Shape) (on mbec : ℕ → Bool) where
 
   -- Secure words.
   words-sound : (p : VirtualProcessor) (t : ℕ) (ws : List ℕ) → isLevel z t ≡ true → ((j : ℕ) → j < t → allowed (mbec t) (numberAt 4 (context z p t .secure) j) ≡ true → allowed (mbec t) (numberAt 4 ws j) ≡ true) → SoundVp p →
-      SoundVp (putContext p t (withSecure (context z p t) ws))
+      SoundVp (putContext z p t (withSecure (context z p t) ws))
   words-sound p t ws i f g = alter-sound p t _ i refl g (λ h. record { part = h .part; entry = h .entry; words = λ j b. f j b (h .words j b); class = h .class; low = h .low; idle = h .idle })
 
   pub setSecure-sound : (p : VirtualProcessor) (t l w : ℕ) → isLevel z t ≡ true → allowed (mbec t) w ≡ true → SoundVp p → SoundVp (setSecure z p t l w)

@@ -20,7 +20,7 @@ use Rattle.model.proofs.Bools.{and-not, or-left, or-right, cond-same, c
 use Rattle.model.proofs.Found.{enabled-level, nextUp-found, waiting-found, advanced-active, unlocked-active}
 use Rattle.model.specs.Hide.{hides, hideContext, hideLevel, hideVp}
 use Rattle.model.specs.MapAt.{mapAt}
-use Rattle.model.proofs.Maps.{mapAt-nil, getD-mapAt, mapAt-stored, mapAt-replicate, number-mapAt}
+use Rattle.model.proofs.Maps.{mapAt-nil, getD-mapAt, mapAt-set, mapAt-stored, mapAt-replicate, number-mapAt}
 
 -- The empty records have nothing to hide.
 register-none : (z : Shape) (h : Bool) (r : ℕ) → _≡_ {A = ℕ} (cond (isPrivate z r) (cond h (cond (eqb r cr0 && false) 1 0) 0) 0) 0
@@ -49,12 +49,12 @@ module _ (K : ℕ) (E : ℕ → Bool) (z : Shape) where
       go false e = rw e (sym (hideContext-none z _ l))
 
   -- An update of a context that commutes with hiding, put back.
-  pub putContext-hide : (p : VirtualProcessor) (l : ℕ) (c : Context) → isLevel z l ≡ true → putContext (hideVp K E z p) l (hidden l c) ≡ hideVp K E z (putContext p l c)
+  pub putContext-hide : (p : VirtualProcessor) (l : ℕ) (c : Context) → isLevel z l ≡ true → putContext z (hideVp K E z p) l (hidden l c) ≡ hideVp K E z (putContext z p l c)
   unfolding putContext hideVp hidden hideLevel
-  putContext-hide p l c h = rw (mapAt-stored, h)
+  putContext-hide p l c h = rw (h, mapAt-set, h)
 
   pub alter-hide : (p : VirtualProcessor) (l : ℕ) (f : Context → Context) → isLevel z l ≡ true → f (hidden l (context z p l)) ≡ hidden l (f (context z p l)) →
-      putContext (hideVp K E z p) l (f (context z (hideVp K E z p) l)) ≡ hideVp K E z (putContext p l (f (context z p l)))
+      putContext z (hideVp K E z p) l (f (context z (hideVp K E z p) l)) ≡ hideVp K E z (putContext z p l (f (context z p l)))
   alter-hide p l f h e = rw (context-hide, e) (putContext-hide p l (f (context z p l)) h)
 
   -- Registers: the private ones that are not hidden, as those of a level below K, and those that are shared.
@@ -180,7 +180,7 @@ module _ (K : ℕ) (E : ℕ → Bool) (z : Shape) where
   unfolding enter hidden hideContext
   enter-hide p l reason o k =
       let same : recordOf (hideVp K E z p) reason ≡ recordOf p reason = unfold hideVp in (λ i. record { reason = reason; from = p .active; rax = shared-hide p rax refl i; rcx = shared-hide p rcx refl i }) in
-      rw same (ap (λ q. withActive q l) (alter-hide p l (λ c. withControl c (recordOf p reason)) k (rw (ne-eqb l 0 (λ e. omega arith)))) ∙ withActive-hide (putContext p l (withControl (context z p l) (recordOf p reason))) l)
+      rw same (ap (λ q. withActive q l) (alter-hide p l (λ c. withControl c (recordOf p reason)) k (rw (ne-eqb l 0 (λ e. omega arith)))) ∙ withActive-hide (putContext z p l (withControl (context z p l) (recordOf p reason))) l)
 
   -- Call, return, interrupt.
   pub nextUp-same : (p : VirtualProcessor) → nextUp z (hideVp K E z p) ≡ nextUp z p

@@ -25,7 +25,7 @@ abbrev pub recordOf : VirtualProcessor → ℕ → Control
 recordOf p reason = record { reason = reason; from = p .active; rax = sharedOf p rax; rcx = sharedOf p rcx }
 
 unfoldable pub enter : Shape → VirtualProcessor → ℕ → ℕ → VirtualProcessor
-enter z p l reason = withActive (putContext p l (withControl (context z p l) (recordOf p reason))) l
+enter z p l reason = withActive (putContext z p l (withControl (context z p l) (recordOf p reason))) l
 
 -- Ready: vector/16 (rounded down) exceeds the level's TPR class; RFLAGS.IF plays no part.
 unfoldable pub isReady : Context → ℕ → Bool
@@ -94,7 +94,7 @@ startedContext c ip sp cr = record {
 }
 
 unfoldable pub started : Shape → VirtualProcessor → ℕ → ℕ → ℕ → ℕ → VirtualProcessor
-started z p t ip sp cr = putContext p t (startedContext (context z p t) ip sp cr)
+started z p t ip sp cr = putContext z p t (startedContext (context z p t) ip sp cr)
 
 -- ack: takes the highest ready vector of the actor.
 unfoldable pub acknowledged : Shape → VirtualProcessor → VirtualProcessor

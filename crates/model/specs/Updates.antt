@@ -14,7 +14,7 @@ use Rattle.model.specs.declared.machine.Shape.{Shape}
 use Rattle.model.specs.declared.machine.VirtualProcessor.{VirtualProcessor}
 use Rattle.model.specs.Arrays.{numberAt, stored}
 use Rattle.model.specs.Registers.{dr6, isPrivate}
-use Rattle.model.specs.State.{State, level, pages, context, lockBit}
+use Rattle.model.specs.State.{State, level, pages, isLevel, context, lockBit}
 
 -- A context with one field changed.
 abbrev pub withRegisters : Context → List ℕ → Context
@@ -48,31 +48,31 @@ withEnabled x mbec = record { enabled = true; mbec = mbec; config = x .config }
 abbrev pub withConfig : PartitionLevel → ℕ → PartitionLevel
 withConfig x w = record { enabled = x .enabled; mbec = x .mbec; config = w }
 
--- One processor.
-unfoldable pub putContext : VirtualProcessor → ℕ → Context → VirtualProcessor
-putContext p l c = withContexts p (stored 4 (p .contexts) l c)
+-- One processor. Beyond M nothing is stored.
+unfoldable pub putContext : Shape → VirtualProcessor → ℕ → Context → VirtualProcessor
+putContext z p l c = withContexts p (cond (isLevel z l) (set (p .contexts) l c) (p .contexts))
 
 unfoldable pub setShared : VirtualProcessor → ℕ → ℕ → VirtualProcessor
 setShared p r x = withShared p (stored 20 (p .shared) (r - dr6) x)
 
 unfoldable pub setPrivate : Shape → VirtualProcessor → ℕ → ℕ → ℕ → VirtualProcessor
-setPrivate z p l r x = let c = context z p l in putContext p l (withRegisters c (stored 13 (c .registers) r x))
+setPrivate z p l r x = let c = context z p l in putContext z p l (withRegisters c (stored 13 (c .registers) r x))
 
 unfoldable pub setRegister : Shape → VirtualProcessor → ℕ → ℕ → ℕ → VirtualProcessor
 setRegister z p l r x = cond (isPrivate z r) (setPrivate z p l r x) (setShared p r x)
 
 unfoldable pub setTpr : Shape → VirtualProcessor → ℕ → ℕ → VirtualProcessor
-setTpr z p l class = putContext p l (withTpr (context z p l) class)
+setTpr z p l class = putContext z p l (withTpr (context z p l) class)
 
 -- Vector n of level l is pending where x is 1, and is not where x is 0.
 unfoldable pub setPending : Shape → VirtualProcessor → ℕ → ℕ → ℕ → VirtualProcessor
 setPending z p l n x =
     let c = context z p l in
-    putContext p l (withPending c (stored 4 (c .pending) (n / 64) (put (n % 64) 1 (numberAt 4 (c .pending) (n / 64)) x)))
+    putContext z p l (withPending c (stored 4 (c .pending) (n / 64) (put (n % 64) 1 (numberAt 4 (c .pending) (n / 64)) x)))
 
 -- Level t's secure configuration of the lower level l.
 unfoldable pub setSecure : Shape → VirtualProcessor → ℕ → ℕ → ℕ → VirtualProcessor
-setSecure z p t l w = let c = context z p t in putContext p t (withSecure c (stored 4 (c .secure) l w))
+setSecure z p t l w = let c = context z p t in putContext z p t (withSecure c (stored 4 (c .secure) l w))
 
 -- Level t's TLB locks are cleared, in the first n of its words and in all.
 unfoldable pub cleared : ℕ → List ℕ → List ℕ
@@ -80,7 +80,7 @@ cleared zero ws = ws
 cleared (suc l) ws = let us = cleared l ws in stored 4 us l (put lockBit 1 (numberAt 4 us l) 0)
 
 unfoldable pub unlocked : Shape → VirtualProcessor → ℕ → VirtualProcessor
-unlocked z p t = let c = context z p t in putContext p t (withSecure c (cleared 4 (c .secure)))
+unlocked z p t = let c = context z p t in putContext z p t (withSecure c (cleared 4 (c .secure)))
 
 -- The state.
 abbrev pub withVps : Machine → List VirtualProcessor → Machine

@@ -1,6 +1,7 @@
 -- Laws of the search for the highest vector that is pending and ready, from the top down. Assumes nothing.
 use mathlib.Core.Path.{_≡_, refl, sym, ap, _∙_}
 use mathlib.Core.Bool.{Bool, true, false, cond, _&&_}
+use mathlib.Core.List.{List}
 use Prim.Native.Nat.{ℕ, zero, suc, _+_, _-_, _/_, _%_, _≤_, _<_}
 use native.Mathlib.Omega.{arith}
 use lib.Dec.{eqb}
@@ -14,7 +15,11 @@ use Rattle.model.specs.declared.machine.Context.{Context}
 use Rattle.model.specs.Arrays.{numberAt}
 use Rattle.model.specs.Bounded.{highest}
 use Rattle.model.specs.Entry.{isReady, highestReady}
-use Rattle.model.specs.State.{isPending}
+use Rattle.model.specs.State.{isPending, context}
+use Rattle.model.specs.declared.machine.Shape.{Shape}
+use Rattle.processor.specs.Record.{vectorsOf, vpOf, wordIn}
+use Rattle.processor.proofs.Words.{four, four-at}
+use Rattle.processor.proofs.Stores.{tpr-read, pending-read}
 
 -- Numbers that fail are passed over.
 pub highest-skip : (n m : ℕ) (f : ℕ → Bool) → m ≤ n → ((k : ℕ) → m ≤ k → k < n → f k ≡ false) → highest n f ≡ highest m f
@@ -25,6 +30,11 @@ highest-skip (suc n) m f l h = go (eqb m (suc n)) refl (λ q. highest-skip n m f
     go : (b : Bool) → eqb m (suc n) ≡ b → (m ≤ n → highest n f ≡ highest m f) → cond (f n) n (highest n f) ≡ highest m f
     go true e r = rw (eqb-true m (suc n) e)
     go false e r = let ne : (m ≡ suc n → ⊥) = eqb-false m (suc n) e in rw (h n (omega arith) (omega arith)) (r (omega arith))
+
+-- A number within an array.
+number-of : (xs : List ℕ) (i : ℕ) → i < 4 → numberAt 4 xs i ≡ getD xs i 0
+unfolding numberAt
+number-of xs i h = rw (lt-ltb i 4 h)
 
 -- What the search looks for.
 abbrev pub wanted : Context → ℕ → Bool
@@ -77,3 +87,21 @@ none-pending c i o w k h e q a b =
 pub pending-bit : (c : Context) (k : ℕ) → k < 256 → bit (getD (c .pending) (k / 64) 0) (k % 64) ≡ isPending c k
 unfolding isPending numberAt
 pending-bit c k h = let q : k / 64 < 4 = omega arith in rw (lt-ltb (k / 64) 4 q)
+
+-- The search goes by a level's vectors alone: by its words, as code has them.
+highest-cong : (n : ℕ) (f g : ℕ → Bool) → ((k : ℕ) → k < n → f k ≡ g k) → highest n f ≡ highest n g
+unfolding highest
+highest-cong zero f g h = refl
+highest-cong (suc n) f g h = rw (h n (omega arith), highest-cong n f g (λ k b. h k (omega arith)))
+
+pub vectors-read : (z : Shape) (ws : List ℕ) (l : ℕ)
+    → highestReady (vectorsOf (wordIn z ws l 13) (four (λ i. wordIn z ws l (14 + i)))) ≡ highestReady (context z (vpOf ws) l)
+unfolding highestReady isPending isReady
+vectors-read z ws l =
+    highest-cong 256 _ _ (λ n h.
+    let i : n / 64 < 4 = omega arith in
+    let word : numberAt 4 (four (λ i. wordIn z ws l (14 + i))) (n / 64) ≡ numberAt 4 (context z (vpOf ws) l .pending) (n / 64) = first (n / 64) i in
+    rw (word, tpr-read z ws l))
+  where
+    first : (i : ℕ) → i < 4 → numberAt 4 (four (λ i. wordIn z ws l (14 + i))) i ≡ numberAt 4 (context z (vpOf ws) l .pending) i
+    first i h = number-of (four (λ i. wordIn z ws l (14 + i))) i h ∙ four-at (λ i. wordIn z ws l (14 + i)) 0 i h ∙ pending-read z ws l i h

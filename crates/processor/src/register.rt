@@ -2,14 +2,13 @@
 // Dr6Shared is 1; 13 to 31 are shared by all levels. A register past 31 reads 0 and keeps nothing.
 ghost use mathlib.Core.Path.{_≡_};
 ghost use Prim.Native.Nat.{_-_};
-ghost use Rattle.model.specs.Arrays.{numberAt, stored};
 ghost use Rattle.model.specs.Registers.{dr6, isPrivate, privateOf, sharedOf, registerOf};
-ghost use Rattle.model.specs.Updates.{withRegisters, setPrivate, setShared, setRegister};
-use crate::context::is_level;
-use crate::context::known_context;
-use model::machine::Context;
+ghost use Rattle.model.specs.Updates.{setPrivate, setShared, setRegister};
+ghost use Rattle.processor.specs.Record.{vpOf};
+use crate::record::Record;
+use crate::record::level_word;
+use crate::record::set_level_word;
 use model::machine::Shape;
-use model::machine::VirtualProcessor;
 
 // Is register r private to a level?
 pub fn is_private(z: Shape, r: u64) -> bool
@@ -18,35 +17,14 @@ pub fn is_private(z: Shape, r: u64) -> bool
     (r < 12) | ((r == 12) & !z.dr6_shared)
 }
 
-// Register r of a context.
-fn kept_register(c: Context, r: u64) -> u64
-    ensures { λ o. ⌜ o ≡ numberAt 13 (c .registers) r ⌝ }
+// Private register r of level l.
+pub fn private_of(z: Shape, p: &Record, l: u64, r: u64) -> u64
+    ensures { λ o. ⌜ o ≡ privateOf z (vpOf (now (p .entry))) l r ⌝ }
 {
     if r >= 13 {
         return 0;
     }
-    let j = r as usize;
-    c.registers[j]
-}
-
-// The context with x in register r.
-fn with_register(mut c: Context, r: u64, x: u64) -> Context
-    ensures { λ o. ⌜ o ≡ withRegisters c (stored 13 (c .registers) r x) ⌝ }
-{
-    if r >= 13 {
-        return c;
-    }
-    let j = r as usize;
-    c.registers[j] = x;
-    c
-}
-
-// Private register r of level l.
-pub fn private_of(z: Shape, p: VirtualProcessor, l: u64, r: u64) -> u64
-    ensures { λ o. ⌜ o ≡ privateOf z p l r ⌝ }
-{
-    let i = (l % 4) as usize;
-    kept_register(known_context(is_level(z, l), p.contexts[i]), r)
+    level_word(z, p, l, r)
 }
 
 // The place of register r among the shared ones, which are kept from DR6 on.
@@ -60,20 +38,20 @@ fn shared_place(r: u64) -> u64
 }
 
 // Shared register r.
-pub fn shared_of(p: VirtualProcessor, r: u64) -> u64
-    ensures { λ o. ⌜ o ≡ sharedOf p r ⌝ }
+pub fn shared_of(p: &Record, r: u64) -> u64
+    ensures { λ o. ⌜ o ≡ sharedOf (vpOf (now (p .entry))) r ⌝ }
 {
     let k = shared_place(r);
     if k >= 20 {
         return 0;
     }
-    let j = k as usize;
-    p.shared[j]
+    let i = (2 + k) as usize;
+    p[i]
 }
 
 // Register r as level l has it.
-pub fn register_of(z: Shape, p: VirtualProcessor, l: u64, r: u64) -> u64
-    ensures { λ o. ⌜ o ≡ registerOf z p l r ⌝ }
+pub fn register_of(z: Shape, p: &Record, l: u64, r: u64) -> u64
+    ensures { λ o. ⌜ o ≡ registerOf z (vpOf (now (p .entry))) l r ⌝ }
 {
     if is_private(z, r) {
         return private_of(z, p, l, r);
@@ -81,38 +59,35 @@ pub fn register_of(z: Shape, p: VirtualProcessor, l: u64, r: u64) -> u64
     shared_of(p, r)
 }
 
-// The processor with x in private register r of level l.
-pub fn set_private(z: Shape, mut p: VirtualProcessor, l: u64, r: u64, x: u64) -> VirtualProcessor
-    ensures { λ o. ⌜ o ≡ setPrivate z p l r x ⌝ }
+// Puts x into private register r of level l.
+pub fn set_private(z: Shape, p: &mut Record, l: u64, r: u64, x: u64)
+    ensures { λ _. ⌜ vpOf (now (p .exit)) ≡ setPrivate z (vpOf (now (p .entry))) l r x ⌝ }
 {
-    if l >= 4 {
-        return p;
+    if r >= 13 {
+        return;
     }
-    let i = l as usize;
-    let c = with_register(known_context(is_level(z, l), p.contexts[i]), r, x);
-    p.contexts[i] = c;
-    p
+    set_level_word(z, p, l, r, x);
 }
 
-// The processor with x in shared register r.
-pub fn set_shared(mut p: VirtualProcessor, r: u64, x: u64) -> VirtualProcessor
-    ensures { λ o. ⌜ o ≡ setShared p r x ⌝ }
+// Puts x into shared register r.
+pub fn set_shared(p: &mut Record, r: u64, x: u64)
+    ensures { λ _. ⌜ vpOf (now (p .exit)) ≡ setShared (vpOf (now (p .entry))) r x ⌝ }
 {
     let k = shared_place(r);
     if k >= 20 {
-        return p;
+        return;
     }
-    let j = k as usize;
-    p.shared[j] = x;
-    p
+    let i = (2 + k) as usize;
+    p[i] = x;
 }
 
-// The processor with x in register r as level l has it.
-pub fn set_register(z: Shape, p: VirtualProcessor, l: u64, r: u64, x: u64) -> VirtualProcessor
-    ensures { λ o. ⌜ o ≡ setRegister z p l r x ⌝ }
+// Puts x into register r as level l has it.
+pub fn set_register(z: Shape, p: &mut Record, l: u64, r: u64, x: u64)
+    ensures { λ _. ⌜ vpOf (now (p .exit)) ≡ setRegister z (vpOf (now (p .entry))) l r x ⌝ }
 {
     if is_private(z, r) {
-        return set_private(z, p, l, r, x);
+        set_private(z, p, l, r, x);
+        return;
     }
-    set_shared(p, r, x)
+    set_shared(p, r, x);
 }

@@ -1,23 +1,20 @@
 // The secure configuration that a level holds for each lower level (01, the events secure and ret): bit 0 MBEC, bit 1 TLB lock.
 ghost use mathlib.Core.Path.{_≡_};
-ghost use mathlib.Core.Bool.{cond};
 ghost use Rattle.word.specs.Field.{put, bit};
-ghost use Rattle.model.specs.Arrays.{numberAt, stored};
 ghost use Rattle.model.specs.Bounded.{bits, any};
-ghost use Rattle.model.specs.State.{isLevel, noContext, secureOf, mbecBit, lockBit};
-ghost use Rattle.model.specs.Updates.{withSecure, setSecure, cleared, unlocked};
-ghost use lib.Dec.{ltb};
-use crate::context::is_level;
-use crate::context::known_context;
-use model::machine::Context;
+ghost use Rattle.model.specs.State.{secureOf, mbecBit, lockBit};
+ghost use Rattle.model.specs.Updates.{setSecure, unlocked};
+ghost use Rattle.processor.specs.Record.{vpOf, lockCleared};
+use crate::record::Record;
+use crate::record::level_word;
+use crate::record::set_level_word;
 use model::machine::Shape;
-use model::machine::VirtualProcessor;
 use model::set::level_set;
 use word::field::has_bit;
 
-// What level t, with that context, holds for the lower level l.
-fn held_for(z: Shape, c: Context, t: u64, l: u64) -> u64
-    ensures { λ r. ⌜ r ≡ cond (ltb l t) (numberAt 4 (cond (isLevel z t) c noContext .secure) l) 0 ⌝ }
+// The secure configuration that level t holds for the lower level l.
+pub fn secure_of(z: Shape, p: &Record, t: u64, l: u64) -> u64
+    ensures { λ r. ⌜ r ≡ secureOf z (vpOf (now (p .entry))) t l ⌝ }
 {
     if l >= t {
         return 0;
@@ -25,64 +22,37 @@ fn held_for(z: Shape, c: Context, t: u64, l: u64) -> u64
     if l >= 4 {
         return 0;
     }
-    let held = known_context(is_level(z, t), c);
-    let j = l as usize;
-    held.secure[j]
+    level_word(z, p, t, 18 + l)
 }
 
-// The secure configuration that level t holds for the lower level l.
-pub fn secure_of(z: Shape, p: VirtualProcessor, t: u64, l: u64) -> u64
-    ensures { λ r. ⌜ r ≡ secureOf z p t l ⌝ }
+// The set of the levels that have MBEC on for level l. Level 0 has no lower level.
+pub fn mbec_set(z: Shape, p: &Record, l: u64) -> u64
+    ensures { λ r. ⌜ r ≡ bits 4 (λ t. bit (secureOf z (vpOf (now (p .entry))) t l) mbecBit) ⌝ }
 {
-    let i = (t % 4) as usize;
-    held_for(z, p.contexts[i], t, l)
-}
-
-// The set of the levels that have MBEC on for level l.
-pub fn mbec_set(z: Shape, p: VirtualProcessor, l: u64) -> u64
-    ensures { λ r. ⌜ r ≡ bits 4 (λ t. bit (secureOf z p t l) mbecBit) ⌝ }
-{
-    let zero = has_bit(held_for(z, p.contexts[0], 0, l), 0);
-    let one = has_bit(held_for(z, p.contexts[1], 1, l), 0);
-    let two = has_bit(held_for(z, p.contexts[2], 2, l), 0);
-    let three = has_bit(held_for(z, p.contexts[3], 3, l), 0);
-    level_set(zero, one, two, three)
+    let one = has_bit(secure_of(z, p, 1, l), 0);
+    let two = has_bit(secure_of(z, p, 2, l), 0);
+    let three = has_bit(secure_of(z, p, 3, l), 0);
+    level_set(false, one, two, three)
 }
 
 // Does a level hold a TLB lock on level l?
-pub fn holds_lock(z: Shape, p: VirtualProcessor, l: u64) -> bool
-    ensures { λ r. ⌜ r ≡ any 4 (λ t. bit (secureOf z p t l) lockBit) ⌝ }
+pub fn holds_lock(z: Shape, p: &Record, l: u64) -> bool
+    ensures { λ r. ⌜ r ≡ any 4 (λ t. bit (secureOf z (vpOf (now (p .entry))) t l) lockBit) ⌝ }
 {
-    let zero = has_bit(held_for(z, p.contexts[0], 0, l), 1);
-    let one = has_bit(held_for(z, p.contexts[1], 1, l), 1);
-    let two = has_bit(held_for(z, p.contexts[2], 2, l), 1);
-    let three = has_bit(held_for(z, p.contexts[3], 3, l), 1);
-    zero | one | two | three
+    let one = has_bit(secure_of(z, p, 1, l), 1);
+    let two = has_bit(secure_of(z, p, 2, l), 1);
+    let three = has_bit(secure_of(z, p, 3, l), 1);
+    one | two | three
 }
 
-// The context with w for level l.
-fn with_configuration(mut c: Context, l: u64, w: u64) -> Context
-    ensures { λ r. ⌜ r ≡ withSecure c (stored 4 (c .secure) l w) ⌝ }
+// secure: sets level t's configuration of level l to w.
+pub fn set_secure(z: Shape, p: &mut Record, t: u64, l: u64, w: u64)
+    ensures { λ _. ⌜ vpOf (now (p .exit)) ≡ setSecure z (vpOf (now (p .entry))) t l w ⌝ }
 {
     if l >= 4 {
-        return c;
+        return;
     }
-    let j = l as usize;
-    c.secure[j] = w;
-    c
-}
-
-// secure: level t's configuration of level l set to w.
-pub fn set_secure(z: Shape, mut p: VirtualProcessor, t: u64, l: u64, w: u64) -> VirtualProcessor
-    ensures { λ r. ⌜ r ≡ setSecure z p t l w ⌝ }
-{
-    if t >= 4 {
-        return p;
-    }
-    let i = t as usize;
-    let c = with_configuration(known_context(is_level(z, t), p.contexts[i]), l, w);
-    p.contexts[i] = c;
-    p
+    set_level_word(z, p, t, 18 + l, w);
 }
 
 // A configuration word with its lock cleared.
@@ -92,26 +62,23 @@ fn without_lock(word: u64) -> u64
     word::field::put(word, 1, 1, 0)
 }
 
-// The context with all its locks cleared.
-fn without_locks(mut c: Context) -> Context
-    ensures { λ r. ⌜ r ≡ withSecure c (cleared 4 (c .secure)) ⌝ }
+// Clears level t's lock in the configuration of level l.
+fn clear_lock(z: Shape, p: &mut Record, t: u64, l: u64)
+    ensures { λ _. ⌜ vpOf (now (p .exit)) ≡ lockCleared z (vpOf (now (p .entry))) t l ⌝ }
 {
-    c.secure[0] = without_lock(c.secure[0]);
-    c.secure[1] = without_lock(c.secure[1]);
-    c.secure[2] = without_lock(c.secure[2]);
-    c.secure[3] = without_lock(c.secure[3]);
-    c
+    if l >= 4 {
+        return;
+    }
+    let word = level_word(z, p, t, 18 + l);
+    set_level_word(z, p, t, 18 + l, without_lock(word));
 }
 
-// ret: the TLB locks of level t cleared.
-pub fn unlocked(z: Shape, mut p: VirtualProcessor, t: u64) -> VirtualProcessor
-    ensures { λ r. ⌜ r ≡ unlocked z p t ⌝ }
+// ret: clears the TLB locks of level t.
+pub fn unlock(z: Shape, p: &mut Record, t: u64)
+    ensures { λ _. ⌜ vpOf (now (p .exit)) ≡ unlocked z (vpOf (now (p .entry))) t ⌝ }
 {
-    if t >= 4 {
-        return p;
-    }
-    let i = t as usize;
-    let c = without_locks(known_context(is_level(z, t), p.contexts[i]));
-    p.contexts[i] = c;
-    p
+    clear_lock(z, p, t, 0);
+    clear_lock(z, p, t, 1);
+    clear_lock(z, p, t, 2);
+    clear_lock(z, p, t, 3);
 }

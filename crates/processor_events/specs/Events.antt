@@ -16,8 +16,7 @@ use Rattle.model.specs.Registers.{cr0, rflags, rcx, protectedBit, interruptBit,
 use Rattle.model.specs.State.{top, context, activeOf, enabledAt, mbecBit}
 use Rattle.model.specs.Updates.{setRegister, setTpr, setSecure}
 use Rattle.events.specs.declared.scope.Scope.{Scope}
-use Rattle.events.specs.declared.scope.VpStep.{VpStep}
-use Rattle.events.specs.Scope.{settled, unmade}
+use Rattle.events.specs.Scope.{VpStep, settled, unmade}
 
 -- An instruction's length that is not one of 1 to 15.
 abbrev pub badLength : ℕ → Bool

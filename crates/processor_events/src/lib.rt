@@ -1,47 +1,36 @@
 // The events that change one processor's record, and the reading of a register (01, "Events"). Each is given the scope and the
-// record, and gives the answer and the record after it. Where several refusals apply the smallest number is given, and only an
-// event that is done changes the record.
+// record, which is lent, and gives the answer. Where several refusals apply the smallest number is given, and only an event that
+// is done changes the record.
 ghost use mathlib.Core.Path.{_≡_};
-ghost use Rattle.model.specs.declared.answer.Answer.the-variants.{Refused};
+ghost use Rattle.processor.specs.Record.{vpOf};
 ghost use Rattle.processor_events.specs.Events.{badLength, callIn, retIn, secureIn, rregIn, wregIn, tprIn, ackIn, envpIn, intIn};
-use entry::called;
-use entry::interrupted;
+use entry::interrupt;
 use entry::next_up;
-use entry::returned;
-use entry::started;
+use entry::vtl_call;
+use entry::vtl_return;
 use events::answers::one_if;
 use events::scope::Scope;
-use events::scope::VpStep;
 use events::scope::is_unmade;
 use model::answer::Answer;
 use model::answer::Refusal;
-use model::machine::VirtualProcessor;
 use model::quantity::Level;
 use model::quantity::Processor;
 use model::set::in_set;
 use partition::config::secure_reserved_set;
-use processor::context::context_at;
-use processor::context::enabled_at;
-use processor::interrupt::acknowledged;
+use processor::control::start;
 use processor::interrupt::enters;
 use processor::interrupt::highest_ready;
+use processor::interrupt::set_pending;
 use processor::interrupt::set_tpr;
+use processor::record::Record;
+use processor::record::active_of;
+use processor::record::enabled_at;
 use processor::register::private_of;
 use processor::register::register_of;
 use processor::register::set_register;
 use processor::register::shared_of;
 use processor::secure::set_secure;
 use word::field::has_bit;
-
-// A refusal: the record stays as it is.
-fn refused(r: Refusal, p: VirtualProcessor) -> VpStep
-    ensures { λ o. ⌜ o ≡ record { answer = Refused r; vp = p } ⌝ }
-{
-    VpStep {
-        answer: Answer::Refused(r),
-        vp: p,
-    }
-}
 
 // Is an instruction's length not one of 1 to 15?
 fn bad_length(length: u64) -> bool
@@ -52,85 +41,74 @@ fn bad_length(length: u64) -> bool
 
 // call: 2 in real mode (the actor's CR0 bit 0 clear), if RCX is not 0, or if no higher level is enabled. The value is the level
 // entered.
-pub fn call(c: Scope, p: VirtualProcessor, v: Processor, mode: u64, length: u64) -> VpStep
-    ensures { λ r. ⌜ r ≡ callIn c p (v .0) mode length ⌝ }
+pub fn call(c: Scope, p: &mut Record, v: Processor, mode: u64, length: u64) -> Answer
+    ensures { λ r. ⌜ record { answer = r; vp = vpOf (now (p .exit)) } ≡ callIn c (vpOf (now (p .entry))) (v .0) mode length ⌝ }
 {
     let malformed = is_unmade(c, v, mode) | bad_length(length);
     if malformed {
-        return refused(Refusal::Malformed, p);
+        return Answer::Refused(Refusal::Malformed);
     }
-    let protected_mode = has_bit(private_of(c.shape, p, p.active.0, 3), 0);
+    let protected_mode = has_bit(private_of(c.shape, p, active_of(p), 3), 0);
     let rcx = shared_of(p, 14);
     let next = next_up(c.shape, p);
     let undefined = (mode == 1) | !protected_mode | !(rcx == 0) | (next == 4);
     if undefined {
-        return refused(Refusal::UndefinedOpcode, p);
+        return Answer::Refused(Refusal::UndefinedOpcode);
     }
-    VpStep {
-        answer: Answer::Done(next),
-        vp: called(c.shape, p, length),
-    }
+    vtl_call(c.shape, p, next, length);
+    Answer::Done(next)
 }
 
 // ret: 2 at level 0 or if RCX is above 1. The value is the level now active.
-pub fn ret(c: Scope, p: VirtualProcessor, v: Processor, mode: u64, length: u64) -> VpStep
-    ensures { λ r. ⌜ r ≡ retIn c p (v .0) mode length ⌝ }
+pub fn ret(c: Scope, p: &mut Record, v: Processor, mode: u64, length: u64) -> Answer
+    ensures { λ r. ⌜ record { answer = r; vp = vpOf (now (p .exit)) } ≡ retIn c (vpOf (now (p .entry))) (v .0) mode length ⌝ }
 {
     let malformed = is_unmade(c, v, mode) | bad_length(length);
     if malformed {
-        return refused(Refusal::Malformed, p);
+        return Answer::Refused(Refusal::Malformed);
     }
-    let undefined = (mode == 1) | (p.active.0 == 0) | (1 < shared_of(p, 14));
+    let lowest = active_of(p) == 0;
+    let undefined = (mode == 1) | lowest | (1 < shared_of(p, 14));
     if undefined {
-        return refused(Refusal::UndefinedOpcode, p);
+        return Answer::Refused(Refusal::UndefinedOpcode);
     }
-    let q = returned(c.shape, p, length);
-    VpStep {
-        answer: Answer::Done(q.active.0),
-        vp: q,
-    }
+    vtl_return(c.shape, p, length);
+    Answer::Done(active_of(p))
 }
 
 // secure: 1 if a reserved bit of the word is set; 3; 4 if l >= actor; 6 if l is not enabled on the processor, or if bit 0 is set
 // and the partition has no MBEC for the actor.
-pub fn secure(c: Scope, p: VirtualProcessor, v: Processor, mode: u64, l: Level, word: u64) -> VpStep
-    ensures { λ r. ⌜ r ≡ secureIn c p (v .0) mode (l .0) word ⌝ }
+pub fn secure(c: Scope, p: &mut Record, v: Processor, mode: u64, l: Level, word: u64) -> Answer
+    ensures { λ r. ⌜ record { answer = r; vp = vpOf (now (p .exit)) } ≡ secureIn c (vpOf (now (p .entry))) (v .0) mode (l .0) word ⌝ }
 {
+    let actor = active_of(p);
     let malformed = is_unmade(c, v, mode) | (15 < l.0) | secure_reserved_set(word);
     if malformed {
-        return refused(Refusal::Malformed, p);
+        return Answer::Refused(Refusal::Malformed);
     }
     if mode == 1 {
-        return refused(Refusal::UndefinedOpcode, p);
+        return Answer::Refused(Refusal::UndefinedOpcode);
     }
     if c.shape.max_level.0 < l.0 {
-        return refused(Refusal::InvalidLevel, p);
+        return Answer::Refused(Refusal::InvalidLevel);
     }
-    if p.active.0 <= l.0 {
-        return refused(Refusal::NotPermitted, p);
+    if actor <= l.0 {
+        return Answer::Refused(Refusal::NotPermitted);
     }
     let enabled = enabled_at(c.shape, p, l.0);
-    let disabled = !enabled | (has_bit(word, 0) & !in_set(c.mbec, p.active.0));
+    let disabled = !enabled | (has_bit(word, 0) & !in_set(c.mbec, actor));
     if disabled {
-        return refused(Refusal::NotEnabled, p);
+        return Answer::Refused(Refusal::NotEnabled);
     }
-    VpStep {
-        answer: Answer::Done(0),
-        vp: set_secure(c.shape, p, p.active.0, l.0, word),
-    }
+    set_secure(c.shape, p, actor, l.0, word);
+    Answer::Done(0)
 }
 
 // rreg: 1 for a register above 31; 3; 4 if g > actor; 6 if g is not enabled on the processor. The value is the register.
-pub fn rreg(
-    c: Scope,
-    p: VirtualProcessor,
-    v: Processor,
-    mode: u64,
-    g: Level,
-    register: u64,
-) -> Answer
-    ensures { λ r. ⌜ r ≡ rregIn c p (v .0) mode (g .0) register ⌝ }
+pub fn rreg(c: Scope, p: &Record, v: Processor, mode: u64, g: Level, register: u64) -> Answer
+    ensures { λ r. ⌜ r ≡ rregIn c (vpOf (now (p .entry))) (v .0) mode (g .0) register ⌝ }
 {
+    let actor = active_of(p);
     let malformed = is_unmade(c, v, mode) | (15 < g.0) | (31 < register);
     if malformed {
         return Answer::Refused(Refusal::Malformed);
@@ -141,7 +119,7 @@ pub fn rreg(
     if c.shape.max_level.0 < g.0 {
         return Answer::Refused(Refusal::InvalidLevel);
     }
-    if p.active.0 < g.0 {
+    if actor < g.0 {
         return Answer::Refused(Refusal::NotPermitted);
     }
     if !enabled_at(c.shape, p, g.0) {
@@ -153,82 +131,79 @@ pub fn rreg(
 // wreg: refused as rreg is, and 1 for CR0 with bit 0 clear for a level above 0. The register gets the value.
 pub fn wreg(
     c: Scope,
-    p: VirtualProcessor,
+    p: &mut Record,
     v: Processor,
     mode: u64,
     g: Level,
     register: u64,
     value: u64,
-) -> VpStep
-    ensures { λ r. ⌜ r ≡ wregIn c p (v .0) mode (g .0) register value ⌝ }
+) -> Answer
+    ensures { λ r. ⌜ record { answer = r; vp = vpOf (now (p .exit)) } ≡ wregIn c (vpOf (now (p .entry))) (v .0) mode (g .0) register value ⌝ }
 {
+    let actor = active_of(p);
     let real = (register == 3) & (0 < g.0) & !has_bit(value, 0);
     let malformed = is_unmade(c, v, mode) | (15 < g.0) | (31 < register) | real;
     if malformed {
-        return refused(Refusal::Malformed, p);
+        return Answer::Refused(Refusal::Malformed);
     }
     if mode == 1 {
-        return refused(Refusal::UndefinedOpcode, p);
+        return Answer::Refused(Refusal::UndefinedOpcode);
     }
     if c.shape.max_level.0 < g.0 {
-        return refused(Refusal::InvalidLevel, p);
+        return Answer::Refused(Refusal::InvalidLevel);
     }
-    if p.active.0 < g.0 {
-        return refused(Refusal::NotPermitted, p);
+    if actor < g.0 {
+        return Answer::Refused(Refusal::NotPermitted);
     }
     if !enabled_at(c.shape, p, g.0) {
-        return refused(Refusal::NotEnabled, p);
+        return Answer::Refused(Refusal::NotEnabled);
     }
-    VpStep {
-        answer: Answer::Done(0),
-        vp: set_register(c.shape, p, g.0, register, value),
-    }
+    set_register(c.shape, p, g.0, register, value);
+    Answer::Done(0)
 }
 
 // tpr: sets the actor's own class, one of 0 to 15.
-pub fn tpr(c: Scope, p: VirtualProcessor, v: Processor, mode: u64, class: u64) -> VpStep
-    ensures { λ r. ⌜ r ≡ tprIn c p (v .0) mode class ⌝ }
+pub fn tpr(c: Scope, p: &mut Record, v: Processor, mode: u64, class: u64) -> Answer
+    ensures { λ r. ⌜ record { answer = r; vp = vpOf (now (p .exit)) } ≡ tprIn c (vpOf (now (p .entry))) (v .0) mode class ⌝ }
 {
     let malformed = is_unmade(c, v, mode) | (15 < class);
     if malformed {
-        return refused(Refusal::Malformed, p);
+        return Answer::Refused(Refusal::Malformed);
     }
     if mode == 1 {
-        return refused(Refusal::UndefinedOpcode, p);
+        return Answer::Refused(Refusal::UndefinedOpcode);
     }
-    VpStep {
-        answer: Answer::Done(0),
-        vp: set_tpr(c.shape, p, p.active.0, class),
-    }
+    let actor = active_of(p);
+    set_tpr(c.shape, p, actor, class);
+    Answer::Done(0)
 }
 
 // ack: takes the highest ready vector of the actor, 13 if there is none or RFLAGS bit 9 is clear. The value is the vector.
-pub fn ack(c: Scope, p: VirtualProcessor, v: Processor, mode: u64) -> VpStep
-    ensures { λ r. ⌜ r ≡ ackIn c p (v .0) mode ⌝ }
+pub fn ack(c: Scope, p: &mut Record, v: Processor, mode: u64) -> Answer
+    ensures { λ r. ⌜ record { answer = r; vp = vpOf (now (p .exit)) } ≡ ackIn c (vpOf (now (p .entry))) (v .0) mode ⌝ }
 {
     if is_unmade(c, v, mode) {
-        return refused(Refusal::Malformed, p);
+        return Answer::Refused(Refusal::Malformed);
     }
     if mode == 1 {
-        return refused(Refusal::UndefinedOpcode, p);
+        return Answer::Refused(Refusal::UndefinedOpcode);
     }
-    let vector = highest_ready(context_at(c.shape, p, p.active.0));
-    let open = has_bit(private_of(c.shape, p, p.active.0, 2), 9);
+    let actor = active_of(p);
+    let vector = highest_ready(c.shape, p, actor);
+    let open = has_bit(private_of(c.shape, p, actor, 2), 9);
     let none = (vector == 0) | !open;
     if none {
-        return refused(Refusal::NoInterrupt, p);
+        return Answer::Refused(Refusal::NoInterrupt);
     }
-    VpStep {
-        answer: Answer::Done(vector),
-        vp: acknowledged(c.shape, p),
-    }
+    set_pending(c.shape, p, actor, vector, 0);
+    Answer::Done(vector)
 }
 
 // envp, of the record p of processor w: 1 if bit 0 of cr is clear; 3 if t is 0 or above M; 4 if actor >= t; 5 if t is enabled
 // on w; 6 if it is not for the partition. Level t starts on w with RIP, RSP and CR0 as given.
 pub fn envp(
     c: Scope,
-    p: VirtualProcessor,
+    p: &mut Record,
     v: Processor,
     mode: u64,
     w: Processor,
@@ -236,54 +211,50 @@ pub fn envp(
     ip: u64,
     sp: u64,
     cr: u64,
-) -> VpStep
-    ensures { λ r. ⌜ r ≡ envpIn c p (v .0) mode (w .0) (t .0) ip sp cr ⌝ }
+) -> Answer
+    ensures { λ r. ⌜ record { answer = r; vp = vpOf (now (p .exit)) } ≡ envpIn c (vpOf (now (p .entry))) (v .0) mode (w .0) (t .0) ip sp cr ⌝ }
 {
     let real = !has_bit(cr, 0);
     let malformed = is_unmade(c, v, mode) | (c.processors <= w.0) | (15 < t.0) | real;
     if malformed {
-        return refused(Refusal::Malformed, p);
+        return Answer::Refused(Refusal::Malformed);
     }
     if mode == 1 {
-        return refused(Refusal::UndefinedOpcode, p);
+        return Answer::Refused(Refusal::UndefinedOpcode);
     }
     let invalid = (t.0 == 0) | (c.shape.max_level.0 < t.0);
     if invalid {
-        return refused(Refusal::InvalidLevel, p);
+        return Answer::Refused(Refusal::InvalidLevel);
     }
     if t.0 <= c.actor {
-        return refused(Refusal::NotPermitted, p);
+        return Answer::Refused(Refusal::NotPermitted);
     }
     if enabled_at(c.shape, p, t.0) {
-        return refused(Refusal::AlreadyEnabled, p);
+        return Answer::Refused(Refusal::AlreadyEnabled);
     }
     if !in_set(c.enabled, t.0) {
-        return refused(Refusal::NotEnabled, p);
+        return Answer::Refused(Refusal::NotEnabled);
     }
-    VpStep {
-        answer: Answer::Done(0),
-        vp: started(c.shape, p, t.0, ip, sp, cr),
-    }
+    start(c.shape, p, t.0, ip, sp, cr);
+    Answer::Done(0)
 }
 
 // int, of the record p of processor w: 1 for a vector below 16 or above 255; 3 if g > M; 6 if g is not enabled on w. The vector
 // is made pending. The value is 1 if g is entered, else 0.
-pub fn int(c: Scope, p: VirtualProcessor, w: Processor, g: Level, vector: u64) -> VpStep
-    ensures { λ r. ⌜ r ≡ intIn c p (w .0) (g .0) vector ⌝ }
+pub fn int(c: Scope, p: &mut Record, w: Processor, g: Level, vector: u64) -> Answer
+    ensures { λ r. ⌜ record { answer = r; vp = vpOf (now (p .exit)) } ≡ intIn c (vpOf (now (p .entry))) (w .0) (g .0) vector ⌝ }
 {
     let malformed = (c.processors <= w.0) | (15 < g.0) | (vector < 16) | (255 < vector);
     if malformed {
-        return refused(Refusal::Malformed, p);
+        return Answer::Refused(Refusal::Malformed);
     }
     if c.shape.max_level.0 < g.0 {
-        return refused(Refusal::InvalidLevel, p);
+        return Answer::Refused(Refusal::InvalidLevel);
     }
     if !enabled_at(c.shape, p, g.0) {
-        return refused(Refusal::NotEnabled, p);
+        return Answer::Refused(Refusal::NotEnabled);
     }
     let value = one_if(enters(c.shape, p, g.0, vector));
-    VpStep {
-        answer: Answer::Done(value),
-        vp: interrupted(c.shape, p, g.0, vector),
-    }
+    interrupt(c.shape, p, g.0, vector);
+    Answer::Done(value)
 }

@@ -4,7 +4,7 @@ pub mod Stores  -- texts and numbers stored one after another
 pub mod Same  -- words that are compared
 pub mod Places  -- where the fields of a line stand
 pub mod Reading  -- the numbers of a line, read into a row
-pub mod Forms  -- the form with a word
+pub mod Naming  -- the word that a line begins with
 pub mod Saying  -- what a line says, by the row of its numbers
 pub mod Cells  -- a line of the listing, written cell by cell
 pub mod Parted  -- the fields of a line that was put together

@@ -19,14 +19,11 @@ use Rattle.decimal.specs.declared.Number.the-variants.{Value, Malformed}
 use Rattle.script.specs.Lines.{fields, followedBy, inFront, numbersIn, tab}
 use Rattle.script.specs.Rows.{fieldsAfter, untilTab}
 use Rattle.script.specs.Texts.{Numbers, parted}
+use Rattle.script.proofs.Naming.{noTab}
 use Rattle.script.proofs.Places.{fields-first}
 use Rattle.script.proofs.Same.{differ}
 
--- A field that has no tab.
-abbrev pub noTab : List ℕ → Bool
-noTab [] = true
-noTab (byte ∷ field) = not (eqb byte tab) && noTab field
-
+-- Digits have no tab.
 no-tab-digits : (field : List ℕ) → OnlyDigits field → noTab field ≡ true
 no-tab-digits [] h = refl
 no-tab-digits (byte ∷ field) (low, high, more) = rw (ne-eqb byte tab (λ e. omega arith)) (no-tab-digits field more)

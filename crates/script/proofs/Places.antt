@@ -1,4 +1,4 @@
--- Laws of the places of a line: where a field ends, and which fields come after it.
+-- Laws of places: where a byte next stands, where a field ends, and which fields come after it.
 -- Assumes nothing.
 use Prim.Native.Nat.{ℕ, suc, _+_, _-_, _≤_, _<_}
 use mathlib.Core.Bool.{Bool, true, false, cond}
@@ -13,37 +13,42 @@ use lib.ListN.{drop, drop-of-length-le, getD, length, length-drop, take}
 use lib.Seq.{drop-cons, drop-drop}
 use Rattle.script.specs.Lines.{fields, inFront, tab}
 use Rattle.script.specs.Rows.{afterTab, fieldEnd, fieldsAfter, untilTab}
+use Rattle.script.specs.Search.{byteAt, untilByte}
 
--- The end of a field, from a place on: a tab, another byte, and the line's end.
-module _ (line : List ℕ) (i : ℕ) where
-  pub end-at-tab : i < length line → getD line i 0 ≡ tab → fieldEnd line i ≡ i
-  unfolding untilTab
-  end-at-tab h e = rw (drop-cons line i 0 h, eq-eqb _ tab e) (add-zero i)
+-- Where a byte next stands, from a place on: at this place, past another byte, and at the end.
+module _ (byte : ℕ) (bytes : List ℕ) (i : ℕ) where
+  pub at-byte : i < length bytes → getD bytes i 0 ≡ byte → byteAt byte bytes i ≡ i
+  unfolding untilByte
+  at-byte h e = rw (drop-cons bytes i 0 h, eq-eqb _ byte e) (add-zero i)
 
-  pub end-past-byte : i < length line → (getD line i 0 ≡ tab → ⊥) → fieldEnd line i ≡ fieldEnd line (i + 1)
-  unfolding untilTab
-  end-past-byte h e = rw (drop-cons line i 0 h, ne-eqb _ tab e, add-one i) (omega arith)
+  pub past-byte : i < length bytes → (getD bytes i 0 ≡ byte → ⊥) → byteAt byte bytes i ≡ byteAt byte bytes (i + 1)
+  unfolding untilByte
+  past-byte h e = rw (drop-cons bytes i 0 h, ne-eqb _ byte e, add-one i) (omega arith)
 
-  pub end-at-end : length line ≤ i → fieldEnd line i ≡ i
-  unfolding untilTab
-  end-at-end h = rw (drop-of-length-le line h) (add-zero i)
+  pub at-end : length bytes ≤ i → byteAt byte bytes i ≡ i
+  unfolding untilByte
+  at-end h = rw (drop-of-length-le bytes h) (add-zero i)
 
-until-within : (line : List ℕ) → untilTab line ≤ length line
-unfolding untilTab
-until-within [] = omega arith
-until-within (byte ∷ line) = go (eqb byte tab) (until-within line)
+pub past-next : (byte : ℕ) (bytes : List ℕ) (i j : ℕ) → j ≡ i + 1 → i < length bytes → (getD bytes i 0 ≡ byte → ⊥)
+    → byteAt byte bytes i ≡ byteAt byte bytes j
+past-next byte bytes i j e h d = rw e (past-byte byte bytes i h d)
+
+until-within : (byte : ℕ) (bytes : List ℕ) → untilByte byte bytes ≤ length bytes
+unfolding untilByte
+until-within byte [] = omega arith
+until-within byte (first ∷ bytes) = go (eqb first byte) (until-within byte bytes)
   where
-    go : (t : Bool) → untilTab line ≤ length line → cond t 0 (suc (untilTab line)) ≤ suc (length line)
+    go : (t : Bool) → untilByte byte bytes ≤ length bytes → cond t 0 (suc (untilByte byte bytes)) ≤ suc (length bytes)
     go true h = omega arith
     go false h = omega arith
 
--- A field ends within the line.
-pub end-within : (line : List ℕ) (start : ℕ) → start ≤ length line → (start ≤ fieldEnd line start) × (fieldEnd line start ≤ length line)
-end-within line start h = omega (arith, until-within (drop start line), length-drop start line)
+-- It stands within the bytes, or at their end.
+pub end-within : (byte : ℕ) (bytes : List ℕ) (start : ℕ) → start ≤ length bytes → (start ≤ byteAt byte bytes start) × (byteAt byte bytes start ≤ length bytes)
+end-within byte bytes start h = omega (arith, until-within byte (drop start bytes), length-drop start bytes)
 
 -- The fields of a line are its first field and those after it.
 pub fields-first : (line : List ℕ) → fields line ≡ take (untilTab line) line ∷ fieldsAfter line (untilTab line)
-unfolding fields untilTab
+unfolding fields untilByte
 fields-first [] = refl
 fields-first (byte ∷ line) = go (eqb byte tab) (fields-first line)
   where

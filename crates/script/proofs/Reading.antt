@@ -1,20 +1,23 @@
 -- Laws of the loop that reads the numbers of a line into a row.
--- They keep its invariant, `Reading`, and say what the row is at its end. Assumes nothing.
-use Prim.Native.Nat.{ℕ, _+_, _-_, _≤_, _<_}
-use mathlib.Core.Bool.{true}
+-- They keep its invariant, `Reading`, and say what was read at its end. Assumes nothing.
+use Prim.Native.Nat.{ℕ, zero, suc, _+_, _-_, _≤_, _<_}
+use mathlib.Core.Bool.{Bool, true, false}
 use mathlib.Core.List.{List, [], _∷_, _++_, append-assoc, append-nil}
 use mathlib.Core.Option.{Option, none, some}
 use mathlib.Core.Path.{_≡_, refl, sym, ap, _∙_}
-use borrow.Author.Tests.{le-leb, lt-leb}
+use borrow.Author.Tests.{eq-eqb, eqb-false, eqb-true, leb-false, leb-true, ltb-false, ltb-true, ne-eqb}
 use native.Mathlib.Omega.{arith}
-use lib.ListN.{drop, length, length-append, replicate, set, take}
-use lib.Seq.{sets}
-use Rattle.decimal.specs.Read.{readDecimal}
+use lib.Dec.{eqb, leb, ltb}
+use lib.ListN.{drop, drop-of-length-le, getD, length, length-append, replicate, set, take}
+use lib.Seq.{drop-cons, sets}
+use Rattle.decimal.proofs.Reading.{digit-byte, followed, no-number as not-number}
+use Rattle.decimal.specs.Read.{digitOf, readDecimal}
 use Rattle.decimal.specs.declared.Number.{Number}
 use Rattle.decimal.specs.declared.Number.the-variants.{Value, Malformed}
-use Rattle.script.specs.Lines.{followedBy, numbersIn}
-use Rattle.script.specs.Rows.{fieldEnd, fieldsAfter, refused, rowOf}
-use Rattle.script.proofs.Places.{next-field, no-field}
+use Rattle.script.specs.Lines.{fields, followedBy, numbersIn, tab}
+use Rattle.script.specs.Rows.{NumberEnd, Row, fieldEnd, fieldsAfter, isRow}
+use Rattle.script.proofs.Places.{at-byte, next-field, no-field}
+use Rattle.script.proofs.Same.{differ}
 use Rattle.script.proofs.Stores.{sets-append}
 
 -- Numbers that were read, and those after them.
@@ -30,60 +33,121 @@ joined-one : (read : List ℕ) (n : ℕ) (more : Option (List ℕ)) → joined r
 joined-one read n none = refl
 joined-one read n (some more) = rw append-assoc
 
--- More than seven numbers are refused.
-many : (numbers : List ℕ) → 7 < length numbers → refused ≡ rowOf (some numbers)
-many numbers h = rw (lt-leb (length numbers) 7 h)
+-- A number after as many as are taken.
+one-more : (takes : ℕ) (read : List ℕ) (next : Number) (more : Option (List ℕ)) → length read ≡ takes
+    → false ≡ isRow takes (joined read (followedBy next more))
+one-more takes read Malformed more h = refl
+one-more takes read (Value n) none h = refl
+one-more takes read (Value n) (some more) h =
+    rw (ne-eqb (length (read ++ n ∷ more)) takes (λ e. omega (arith, length-append read (n ∷ more))))
 
-seven-and-one : (read : List ℕ) (next : Number) (more : Option (List ℕ)) → length read ≡ 7 → refused ≡ rowOf (joined read (followedBy next more))
-seven-and-one read Malformed more h = refl
-seven-and-one read (Value n) none h = refl
-seven-and-one read (Value n) (some more) h = many (read ++ n ∷ more) (omega (arith, length-append read (n ∷ more)))
+-- What was read is no row.
+pub no-row : {takes : ℕ} {numbers : Option (List ℕ)} {values : List ℕ} → false ≡ isRow takes numbers → Row takes numbers false values
+no-row e = record { tested = e; held = λ h. differ h }
+
+-- A field that says a number does not begin with a tab.
+not-tab : (field : List ℕ) (n : ℕ) → readDecimal field ≡ Value n → getD field 0 0 ≡ tab → ⊥
+unfolding readDecimal
+not-tab [] n e t = not-number e
+not-tab (byte ∷ field) n e t =
+    let (d, says, more) = followed (digitOf byte) e in
+    omega (arith, digit-byte byte d says)
 
 -- What the loop keeps: some numbers were read, they are stored, and the line says these and then the numbers after `at`.
-pub record Reading (line : List ℕ) (from : ℕ) (values : List ℕ) (count at : ℕ) : Type 0 where
+pub record Reading (line : List ℕ) (from takes : ℕ) (values : List ℕ) (count at : ℕ) : Type 0 where
   pub read : List ℕ
   pub counted : count ≡ length read
-  pub within : count ≤ 7
+  pub within : count ≤ takes
+  pub place : at ≤ length line
   pub stored : values ≡ sets (replicate 7 0) 0 read
   pub rest : numbersIn (fieldsAfter line from) ≡ joined read (numbersIn (fieldsAfter line at))
 
 -- Before the first number.
-pub none-read : (line : List ℕ) (from : ℕ) → Reading line from (replicate 7 0) 0 from
-none-read line from =
-    record { read = []; counted = refl; within = omega arith; stored = refl; rest = joined-none (numbersIn (fieldsAfter line from)) }
+pub none-read : (line : List ℕ) (from takes : ℕ) → from ≤ length line → Reading line from takes (replicate 7 0) 0 from
+none-read line from takes h =
+    record { read = []; counted = refl; within = omega arith; place = h; stored = refl; rest = joined-none (numbersIn (fieldsAfter line from)) }
 
-module _ {line : List ℕ} {from : ℕ} {values : List ℕ} {count at : ℕ} (w : Reading line from values count at) where
-  -- The end of the line.
-  pub all-read : length line ≤ at → record { ok = true; count = count; values = values } ≡ rowOf (numbersIn (fieldsAfter line from))
+-- A tab at the end of a line has an empty field after it.
+empty-field : (line : List ℕ) (at : ℕ) → at + 1 ≡ length line → numbersIn (fieldsAfter line at) ≡ none
+unfolding numbersIn fields readDecimal
+empty-field line at h =
+    let over : length line ≤ suc at = omega arith in
+    rw (drop-cons line at 0 (omega arith), drop-of-length-le line over)
+
+module _ {line : List ℕ} {from takes : ℕ} {values : List ℕ} {count at : ℕ} (w : Reading line from takes values count at) where
+  -- The end of the line, after as many numbers as are taken.
+  all-read : length line ≤ at → count ≡ takes → Row takes (numbersIn (fieldsAfter line from)) true values
   unfolding numbersIn
-  all-read h =
-      rw (w .rest, no-field line at h, append-nil, ← (w .counted), le-leb count 7 (w .within), w .stored)
+  all-read h full = record {
+    tested = rw (w .rest, no-field line at h, append-nil, ← (w .counted), eq-eqb count takes full);
+    held = λ k. rw (w .rest, no-field line at h, append-nil) (w .stored);
+  }
 
-  -- A field after the tab at `at`, which ends at `end`, and was found to say `next`.
-  module _ (end : ℕ) {next : Number} (more : at < length line) (ends : end ≡ fieldEnd line (at + 1))
+  -- No number comes after a place at or before the line's last byte.
+  pub too-few : length line ≤ at + 1 → count < takes → false ≡ isRow takes (numbersIn (fieldsAfter line from))
+  unfolding numbersIn
+  too-few h fewer = go (ltb at (length line)) refl
+    where
+      go : (t : Bool) → ltb at (length line) ≡ t → false ≡ isRow takes (numbersIn (fieldsAfter line from))
+      go true e = let last = ltb-true at (length line) e in rw (w .rest, empty-field line at (omega arith))
+      go false e =
+          rw (w .rest, no-field line at (ltb-false at (length line) e), append-nil, ← (w .counted), ne-eqb count takes (λ d. omega arith))
+
+  -- The field after the tab at `at`.
+  one-field : at < length line
+      → let end = fieldEnd line (at + 1) in
+      numbersIn (fieldsAfter line at) ≡ followedBy (readDecimal (take (end - (at + 1)) (drop (at + 1) line))) (numbersIn (fieldsAfter line end))
+  unfolding numbersIn
+  one-field more = rw (next-field line at (fieldEnd line (at + 1)) more refl)
+
+  -- It was found to end at `end`, and to say `next`.
+  module _ (end : ℕ) {next : Number} (more : at + 1 < length line) (found : NumberEnd line (at + 1) end)
       (says : next ≡ readDecimal (take (end - (at + 1)) (drop (at + 1) line))) where
-    one-field : numbersIn (fieldsAfter line at) ≡ followedBy next (numbersIn (fieldsAfter line end))
-    unfolding numbersIn
-    one-field = rw (next-field line at end more ends, ← says)
+    pub number-read : {n : ℕ} → next ≡ Value n → count < takes → Reading line from takes (set values count n) (count + 1) end
+    unfolding readDecimal
+    number-read {n} e room =
+        let plain : getD line (at + 1) 0 ≡ tab → ⊥ = first-plain (end - (at + 1)) n (sym says ∙ e) in
+        let ends : end ≡ fieldEnd line (at + 1) = found .ends plain in
+        let field : numbersIn (fieldsAfter line at) ≡ followedBy (Value n) (numbersIn (fieldsAfter line end)) =
+        (rw (← ends) at (one-field (omega arith))) ∙ ap (λ (x : Number). followedBy x (numbersIn (fieldsAfter line end))) (sym says ∙ e) in
+        record {
+          read = w .read ++ n ∷ [];
+          counted = omega (arith, w .counted, length-append (w .read) (n ∷ []));
+          within = omega arith;
+          place = found .within;
+          stored =
+              let place : count ≡ 0 + length (w .read) = omega (arith, w .counted) in
+              rw (w .stored, place) (sets-append (w .read) (replicate 7 0) 0 (n ∷ []));
+          rest = w .rest ∙ ap (joined (w .read)) field ∙ joined-one (w .read) n (numbersIn (fieldsAfter line end));
+        }
+      where
+        first-plain : (k n : ℕ) → readDecimal (take k (drop (at + 1) line)) ≡ Value n → getD line (at + 1) 0 ≡ tab → ⊥
+        first-plain zero n e t = not-number e
+        first-plain (suc k) n e t = not-tab (take (suc k) (drop (at + 1) line)) n e (rw (drop-cons line (at + 1) 0 more) t)
 
-    pub number-read : {n : ℕ} → next ≡ Value n → (count ≡ 7 → ⊥) → Reading line from (set values count n) (count + 1) end
-    number-read {n} e room = record {
-      read = w .read ++ n ∷ [];
-      counted = omega (arith, w .counted, length-append (w .read) (n ∷ []));
-      within = omega (arith, w .within);
-      stored =
-          let place : count ≡ 0 + length (w .read) = omega (arith, w .counted) in
-          rw (w .stored, place) (sets-append (w .read) (replicate 7 0) 0 (n ∷ []));
-      rest = w .rest ∙ ap (joined (w .read)) (one-field ∙ ap (λ (x : Number). followedBy x (numbersIn (fieldsAfter line end))) e)
-          ∙ joined-one (w .read) n (numbersIn (fieldsAfter line end));
-    }
+    pub no-number : next ≡ Malformed → false ≡ isRow takes (numbersIn (fieldsAfter line from))
+    unfolding readDecimal
+    no-number e = go (eqb (getD line (at + 1) 0) tab) refl
+      where
+        go : (t : Bool) → eqb (getD line (at + 1) 0) tab ≡ t → false ≡ isRow takes (numbersIn (fieldsAfter line from))
+        go true t =
+            let empty : fieldEnd line (at + 1) - (at + 1) ≡ 0 = omega (arith, at-byte tab line (at + 1) more (eqb-true _ _ t)) in
+            rw (w .rest, one-field (omega arith), empty)
+        go false t =
+            let ends : end ≡ fieldEnd line (at + 1) = found .ends (eqb-false _ _ t) in
+            rw (w .rest, one-field (omega arith), ← ends, ← says, e)
 
-    pub no-number : next ≡ Malformed → refused ≡ rowOf (numbersIn (fieldsAfter line from))
-    no-number e = rw (w .rest, one-field, e)
-
-  -- A field after seven numbers.
-  pub too-many : at < length line → count ≡ 7 → refused ≡ rowOf (numbersIn (fieldsAfter line from))
+  -- A field after as many numbers as are taken.
+  too-many : at < length line → count ≡ takes → false ≡ isRow takes (numbersIn (fieldsAfter line from))
   too-many more full =
       let end = fieldEnd line (at + 1) in
-      seven-and-one (w .read) (readDecimal (take (end - (at + 1)) (drop (at + 1) line))) (numbersIn (fieldsAfter line end)) (omega (arith, w .counted))
-      ∙ sym (ap rowOf (w .rest ∙ ap (joined (w .read)) (one-field end more refl refl)))
+      one-more takes (w .read) (readDecimal (take (end - (at + 1)) (drop (at + 1) line))) (numbersIn (fieldsAfter line end)) (omega (arith, w .counted))
+      ∙ sym (ap (isRow takes) (w .rest ∙ ap (joined (w .read)) (one-field more)))
+
+  -- After as many numbers as are taken, all depends on whether the line ends.
+  pub ended : count ≡ takes → Row takes (numbersIn (fieldsAfter line from)) (leb (length line) at) values
+  ended full = go (leb (length line) at) refl
+    where
+      go : (t : Bool) → leb (length line) at ≡ t → Row takes (numbersIn (fieldsAfter line from)) t values
+      go true e = all-read (leb-true (length line) at e) full
+      go false e = no-row (too-many (leb-false (length line) at e) full)

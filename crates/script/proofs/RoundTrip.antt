@@ -19,7 +19,8 @@ use Rattle.script.specs.Lines.{Form, among, said}
 use Rattle.script.specs.Texts.{Numbers, Text, eventLine, eventText, firstLineOf, firstText, parted, written}
 use Rattle.script.specs.declared.Parsed.the-variants as parsed
 use Rattle.script.specs.declared.Start.the-variants as start
-use Rattle.script.proofs.Parted.{fields-of, noTab, numbers-read, parted-length}
+use Rattle.script.proofs.Naming.{noTab}
+use Rattle.script.proofs.Parted.{fields-of, numbers-read, parted-length}
 
 -- What a text has for its line to say `value`: no tab in its word, at most 151 bytes, and a form that is found by the word.
 pub record Sound {A R : Type 0} (good : A → R) (bad : R) (forms : List (Form A)) (text : Text A) (value : A) : Type 0 where

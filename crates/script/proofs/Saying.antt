@@ -1,22 +1,19 @@
--- Laws of what a line says, by its word and the row that its numbers were read into.
+-- Laws of what a line says, by the row that its numbers were read into.
 -- Assumes nothing.
-use Prim.Native.Nat.{ℕ, zero, suc, _+_, _≤_, _<_}
-use mathlib.Core.Bool.{Bool, true, false, cond}
+use Prim.Native.Nat.{ℕ, zero, suc, _+_, _≤_}
+use mathlib.Core.Bool.{Bool, true, false}
 use mathlib.Core.List.{List, [], _∷_, _++_}
 use mathlib.Core.Option.{Option, none, some}
 use mathlib.Core.Path.{_≡_, refl, sym, ap, _∙_}
-use borrow.Author.Tests.{le-ltb, lt-ltb, leb-false, leb-true, ne-eqb}
+use borrow.Author.Tests.{eqb-true}
 use native.Mathlib.Omega.{arith}
-use lib.Dec.{leb}
-use lib.ListN.{drop, getD, length, replicate, take}
-use lib.Seq.{getD-drop, length-take-le, sets, sets-eq}
-use Rattle.script.specs.Bytes.{same}
-use Rattle.script.specs.Lines.{Form, From, among, made, numbersIn, said, saidBy}
-use Rattle.script.specs.Rows.{fieldEnd, fieldsAfter, held, refused, rowOf}
-use Rattle.script.specs.declared.fields.Row.{Row}
-use Rattle.script.proofs.Forms.{every}
-use Rattle.script.proofs.Places.{end-within, word-first}
-use Rattle.script.proofs.Same.{both, differ}
+use lib.Dec.{eqb}
+use lib.ListN.{drop, getD, length, replicate}
+use lib.Seq.{getD-drop, sets, sets-eq}
+use Rattle.script.specs.Lines.{Form, From, made}
+use Rattle.script.specs.Rows.{Row}
+use Rattle.script.proofs.Naming.{formSaid}
+use Rattle.script.proofs.Same.{differ}
 
 -- Numbers that are stored into a row of zeros are read from it again.
 zeros : (n i : ℕ) → _≡_ {A = ℕ} (getD (replicate n 0) i 0) 0
@@ -41,71 +38,17 @@ made-same : {A : Type 0} (n : ℕ) (value : From n A) (place : ℕ) (left right 
 made-same zero value place left right h = refl
 made-same (suc n) value place left right h = rw (h place) (made-same n (value (getD right place 0)) (suc place) left right h)
 
--- No form takes more numbers than a row has room for.
-abbrev pub few : {A : Type 0} → Form A → Bool
-few form = leb (form .count) 7
+-- What a form's numbers say, by the row that they were read into.
+module _ {A R : Type 0} (good : A → R) (bad : R) (form : Form A) (few : form .count ≤ 7) where
+  pub row-said : (numbers : Option (List ℕ)) {ok : Bool} {values : List ℕ} → Row (form .count) numbers ok values → ok ≡ true
+      → good (made (form .count) (form .value) 0 values) ≡ formSaid good bad form numbers
+  row-said none row h = differ (sym (row .tested) ∙ h)
+  row-said (some numbers) {ok} {values} row h =
+      let count : eqb (length numbers) (form .count) ≡ true = sym (row .tested) ∙ h in
+      rw count (ap good (made-same (form .count) (form .value) 0 values numbers
+      (λ i. ap (λ (l : List ℕ). getD l i 0) (row .held h) ∙ stored-number numbers i (omega (arith, eqb-true (length numbers) (form .count) count)))))
 
-module _ {A R : Type 0} (good : A → R) (bad : R) where
-  among-same : (forms : List (Form A)) (word : List ℕ) (count : ℕ) (left right : List ℕ) → ((i : ℕ) → getD left i 0 ≡ getD right i 0)
-      → among good bad forms word count left ≡ among good bad forms word count right
-  unfolding among
-  among-same [] word count left right h = refl
-  among-same (form ∷ forms) word count left right h =
-      rw (made-same (form .count) (form .value) 0 left right h, among-same forms word count left right h)
-
-  among-many : (forms : List (Form A)) (word numbers : List ℕ) → every few forms ≡ true → 7 < length numbers
-      → bad ≡ among good bad forms word (length numbers) numbers
-  unfolding among
-  among-many [] word numbers h many = refl
-  among-many (form ∷ forms) word numbers h many =
-      let (here, more) = both (few form) (every few forms) h in
-      rw (ne-eqb (length numbers) (form .count) (λ e. omega (arith, leb-true (form .count) 7 here))) (go (same word (form .word)) (among-many forms word numbers more many))
-    where
-      go : (t : Bool) {r : R} → bad ≡ r → bad ≡ cond t bad r
-      go true h = refl
-      go false h = h
-
-  -- A row that is ok has the numbers of the line.
-  row-ok : (forms : List (Form A)) (word : List ℕ) (numbers : Option (List ℕ)) → rowOf numbers .ok ≡ true
-      → among good bad forms word (rowOf numbers .count) (rowOf numbers .values) ≡ saidBy good bad forms word numbers
-  row-ok forms word none h = differ h
-  row-ok forms word (some numbers) h = go (leb (length numbers) 7) refl h
-    where
-      go : (t : Bool) → leb (length numbers) 7 ≡ t → cond t (held numbers) refused .ok ≡ true
-          → among good bad forms word (cond t (held numbers) refused .count) (cond t (held numbers) refused .values)
-          ≡ among good bad forms word (length numbers) numbers
-      go true e k =
-          among-same forms word (length numbers) (sets (replicate 7 0) 0 numbers) numbers (λ i. stored-number numbers i (leb-true (length numbers) 7 e))
-      go false e k = differ k
-
-  -- Where it is not ok, the line says nothing.
-  row-not-ok : (forms : List (Form A)) (word : List ℕ) (numbers : Option (List ℕ)) → every few forms ≡ true → rowOf numbers .ok ≡ false
-      → bad ≡ saidBy good bad forms word numbers
-  row-not-ok forms word none h k = refl
-  row-not-ok forms word (some numbers) h k = go (leb (length numbers) 7) refl k
-    where
-      go : (t : Bool) → leb (length numbers) 7 ≡ t → cond t (held numbers) refused .ok ≡ false
-          → bad ≡ among good bad forms word (length numbers) numbers
-      go true e k = differ (sym k)
-      go false e k = among-many forms word numbers h (leb-false (length numbers) 7 e)
-
-  -- A line of more than 256 bytes.
-  pub too-long : (forms : List (Form A)) (line : List ℕ) → 256 < length line → bad ≡ said good bad forms line
-  unfolding said
-  too-long forms line h = rw (lt-ltb 256 (length line) h)
-
-  -- A line of at most 256 bytes, by its word, which ends at `end`, and the row of the numbers after it.
-  module _ (forms : List (Form A)) (line : List ℕ) (end : ℕ) (row : Row) (short : length line ≤ 256) (ends : end ≡ fieldEnd line 0)
-      (read : row ≡ rowOf (numbersIn (fieldsAfter line end))) where
-    by-word : said good bad forms line ≡ saidBy good bad forms (take end line) (numbersIn (fieldsAfter line end))
-    unfolding said
-    by-word = rw (le-ltb 256 (length line) short, word-first line end ends)
-
-    pub row-said : row .ok ≡ true → among good bad forms (take end line) (row .count) (row .values) ≡ said good bad forms line
-    row-said h = rw (by-word, read) (row-ok forms (take end line) (numbersIn (fieldsAfter line end)) (rw read at h))
-
-    pub row-malformed : every few forms ≡ true → row .ok ≡ false → bad ≡ said good bad forms line
-    row-malformed few-forms h = row-not-ok forms (take end line) (numbersIn (fieldsAfter line end)) few-forms (rw read at h) ∙ sym by-word
-
-    pub end-length : end ≡ length (take end line)
-    end-length = sym (length-take-le end line (omega (arith, end-within line 0 (omega arith))))
+  pub row-malformed : (numbers : Option (List ℕ)) {ok : Bool} {values : List ℕ} → Row (form .count) numbers ok values → ok ≡ false
+      → bad ≡ formSaid good bad form numbers
+  row-malformed none row h = refl
+  row-malformed (some numbers) row h = rw (sym (row .tested) ∙ h)

@@ -1,23 +1,23 @@
 -- How the code finds the fields of a line, and how it holds their numbers.
 -- Assumes nothing.
-use mathlib.Core.Bool.{true, false, cond}
+use mathlib.Core.Bool.{Bool, true, false}
 use mathlib.Core.List.{List, [], _∷_}
 use mathlib.Core.Option.{Option, none, some}
-use Prim.Native.Nat.{ℕ, suc, _+_}
-use lib.Dec.{eqb, leb}
-use lib.ListN.{drop, length, replicate}
+use mathlib.Core.Path.{_≡_}
+use Prim.Native.Nat.{ℕ, _≤_}
+use lib.Dec.{eqb}
+use lib.ListN.{drop, getD, length, replicate}
 use lib.Seq.{sets}
 use Rattle.script.specs.Lines.{fields, tab}
-use Rattle.script.specs.declared.fields.Row.{Row}
+use Rattle.script.specs.Search.{byteAt, untilByte}
 
 -- How many bytes stand before the first tab.
-unfoldable pub untilTab : List ℕ → ℕ
-untilTab [] = 0
-untilTab (byte ∷ line) = cond (eqb byte tab) 0 (suc (untilTab line))
+abbrev pub untilTab : List ℕ → ℕ
+untilTab line = untilByte tab line
 
 -- Where the field that starts at a place ends: at the next tab, or at the line's end.
 abbrev pub fieldEnd : List ℕ → ℕ → ℕ
-fieldEnd line start = start + untilTab (drop start line)
+fieldEnd line start = byteAt tab line start
 
 -- The fields after the one that ends at a place.
 abbrev pub afterTab : List ℕ → List (List ℕ)
@@ -27,14 +27,23 @@ afterTab (byte ∷ line) = fields line
 abbrev pub fieldsAfter : List ℕ → ℕ → List (List ℕ)
 fieldsAfter line end = afterTab (drop end line)
 
--- A row that holds no numbers, and one that holds some.
-abbrev pub refused : Row
-refused = record { ok = false; count = 0; values = replicate 7 0 }
+-- Whether there are as many numbers as are taken.
+abbrev pub isRow : ℕ → Option (List ℕ) → Bool
+isRow takes none = false
+isRow takes (some numbers) = eqb (length numbers) takes
 
-abbrev pub held : List ℕ → Row
-held numbers = record { ok = true; count = length numbers; values = sets (replicate 7 0) 0 numbers }
+-- Numbers that are stored in front of zeros.
+abbrev pub stored : Option (List ℕ) → List ℕ
+stored none = replicate 7 0
+stored (some numbers) = sets (replicate 7 0) 0 numbers
 
--- A row has room for seven numbers: no event takes more.
-abbrev pub rowOf : Option (List ℕ) → Row
-rowOf none = refused
-rowOf (some numbers) = cond (leb (length numbers) 7) (held numbers) refused
+-- What is known once numbers were read: whether there are just as many as are taken, and then where they stand.
+pub record Row (takes : ℕ) (numbers : Option (List ℕ)) (ok : Bool) (values : List ℕ) : Type 0 where
+  pub tested : ok ≡ isRow takes numbers
+  pub held : ok ≡ true → values ≡ stored numbers
+
+-- Where the field from `start` on was found to end. A field that begins with a tab is empty: it says no number wherever it is ended.
+pub record NumberEnd (line : List ℕ) (start end : ℕ) : Type 0 where
+  pub after : start ≤ end
+  pub within : end ≤ length line
+  pub ends : (getD line start 0 ≡ tab → ⊥) → end ≡ fieldEnd line start

@@ -1,64 +1,48 @@
 // The fields of a line, found from tab to tab and handed on as parts of the line, and the numbers that they say.
 ghost use mathlib.Core.Path.{_≡_};
+ghost use Prim.Native.Nat.{_<_, _≤_};
+ghost use lib.ListN.{length, replicate};
 ghost use Rattle.script.specs.Lines.{numbersIn};
-ghost use Rattle.script.specs.Rows.{fieldEnd, fieldsAfter, refused, rowOf};
+ghost use Rattle.script.specs.Rows.{NumberEnd, Row, fieldsAfter};
+use crate::search::find_byte;
 use decimal::Number;
 
-// The numbers of a line's fields. It is not ok where a field says no number, or where there are more fields than any event has.
-pub struct Row {
-    pub ok: bool,
-    pub count: usize,
-    pub values: [u64; 7],
-}
-
-// A row that is not ok.
-fn refuse() -> Row
-    ensures { λ r. ⌜ r ≡ refused ⌝ }
+// Where the field that starts at `start` ends. Most numbers have one digit, so the byte after it is looked at first.
+fn number_end(line: &[u8], start: usize) -> usize
+    requires { ⌜ start < length (now line) ⌝ }
+    ensures { λ r. ⌜ NumberEnd (now (line .entry)) start r ⌝ }
 {
-    Row {
-        ok: false,
-        count: 0,
-        values: [0u64; 7],
+    let next = start + 1;
+    if line.len() <= next {
+        return line.len();
     }
-}
-
-// Where the field that starts at `start` ends: at the next tab, or at the line's end.
-pub fn field_end(line: &[u8], start: usize) -> usize
-    ensures { λ r. ⌜ r ≡ fieldEnd (now (line .entry)) start ⌝ }
-{
-    let mut i = start;
-    while i < line.len() {
-        if line[i] == b'\t' {
-            return i;
-        }
-        i += 1;
+    if line[next] == b'\t' {
+        return next;
     }
-    i
+    find_byte(line, start, b'\t')
 }
 
-// The numbers of the fields after the one that ends at `from`.
-pub fn numbers(line: &[u8], from: usize) -> Row
-    ensures { λ r. ⌜ r ≡ rowOf (numbersIn (fieldsAfter (now (line .entry)) from)) ⌝ }
+// Reads the numbers of the fields after the one that ends at `from` into `values`, and says whether they are just so many.
+pub fn numbers(line: &[u8], from: usize, takes: usize, values: &mut [u64; 7]) -> bool
+    requires { ⌜ from ≤ length (now line) ⌝ }
+    requires { ⌜ takes ≤ 7 ⌝ }
+    requires { ⌜ now values ≡ replicate 7 0 ⌝ }
+    ensures { λ r. ⌜ Row takes (numbersIn (fieldsAfter (now (line .entry)) from)) r (now (values .exit)) ⌝ }
 {
-    let mut values = [0u64; 7];
     let mut count: usize = 0;
     let mut at = from;
-    while at < line.len() {
-        if count == 7 {
-            return refuse();
-        }
+    while count < takes {
         let start = at + 1;
-        let end = field_end(line, start);
+        if line.len() <= start {
+            return false;
+        }
+        let end = number_end(line, start);
         let Number::Value(value) = decimal::read(&line[start..end]) else {
-            return refuse();
+            return false;
         };
         values[count] = value;
         count += 1;
         at = end;
     }
-    Row {
-        ok: true,
-        count: count,
-        values: values,
-    }
+    line.len() <= at
 }

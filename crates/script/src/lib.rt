@@ -3,12 +3,14 @@
 ghost use mathlib.Core.Path.{_≡_};
 ghost use Rattle.script.specs.Events.{lineEvent};
 ghost use Rattle.script.specs.First.{lineFirst};
+use crate::words::Named;
 use model::event::Event;
 use model::machine::FirstLine;
 
 mod events; // the event of each form
 mod fields; // the fields of a line, and their numbers
 pub mod listing; // a line of the listing
+pub mod search; // the search for a byte
 mod words; // the event words
 
 // What a later line says.
@@ -33,13 +35,14 @@ pub fn parse(line: &[u8]) -> Parsed
     if LONGEST < line.len() {
         return Parsed::Malformed;
     }
-    let end = fields::field_end(line, 0);
-    let row = fields::numbers(line, end);
-    if !row.ok {
+    let Named::As { word, end, takes } = words::word_of(line) else {
+        return Parsed::Malformed;
+    };
+    let mut values = [0u64; 7];
+    if !fields::numbers(line, end, takes, &mut values) {
         return Parsed::Malformed;
     }
-    let values = row.values;
-    words::event(&line[..end], row.count, &values)
+    Parsed::Event(events::event(word, &values))
 }
 
 // What the first line says.
@@ -49,22 +52,18 @@ pub fn parse_first(line: &[u8]) -> Start
     if LONGEST < line.len() {
         return Start::Malformed;
     }
-    let end = fields::field_end(line, 0);
-    let row = fields::numbers(line, end);
-    if !row.ok {
+    if !words::begins(line, b"vsm") {
         return Start::Malformed;
     }
-    if !words::equal(&line[..end], b"vsm") {
-        return Start::Malformed;
-    }
-    if row.count != 5 {
+    let mut values = [0u64; 7];
+    if !fields::numbers(line, 3, 5, &mut values) {
         return Start::Malformed;
     }
     Start::First(FirstLine {
-        processors: row.values[0],
-        max_level: row.values[1],
-        pages: row.values[2],
-        dr6_shared: row.values[3],
-        host_mask: row.values[4],
+        processors: values[0],
+        max_level: values[1],
+        pages: values[2],
+        dr6_shared: values[3],
+        host_mask: values[4],
     })
 }

@@ -1,130 +1,147 @@
-// The event words, compared byte for byte. A word is first sorted by its length, so that few words are compared.
+// The event words, compared byte for byte with the beginning of a line. The first byte says which few come into question.
+ghost use mathlib.Core.Bool.{cond};
 ghost use mathlib.Core.List.{[], _∷_};
 ghost use mathlib.Core.Path.{_≡_};
-ghost use Rattle.script.specs.Bytes.{same};
-ghost use Rattle.script.specs.Events.{eventAmong, events, enpart, envp, call, ret, read, write, fetch, protect, config, secure, flush, rreg, wreg, tpr, ack, int, pstat, vstat, caps};
-use crate::Parsed;
-use crate::events;
+ghost use lib.ListN.{length};
+ghost use Rattle.script.specs.Bytes.{begun};
+ghost use Rattle.script.specs.Words.{namedAmong, words};
+ghost use Rattle.script.specs.declared.words.Named.the-variants.{As};
+ghost use Rattle.script.specs.declared.words.Word.the-variants.{Call, Config, Caps, Enpart, Envp, Fetch, Flush, Protect, Pstat, Ret, Read, Rreg, Write, Wreg};
 
-// Whether a word is the one with this name.
-pub fn equal(word: &[u8], name: &[u8]) -> bool
-    ensures { λ r. ⌜ r ≡ same (now (word .entry)) (now (name .entry)) ⌝ }
+// The nineteen event words.
+pub enum Word {
+    Enpart,
+    Envp,
+    Call,
+    Ret,
+    Read,
+    Write,
+    Fetch,
+    Protect,
+    Config,
+    Secure,
+    Flush,
+    Rreg,
+    Wreg,
+    Tpr,
+    Ack,
+    Int,
+    Pstat,
+    Vstat,
+    Caps,
+}
+
+// The event word that a line begins with, where it ends, and how many numbers its event takes.
+pub enum Named {
+    As {
+        word: Word,
+        end: usize,
+        takes: usize,
+    },
+    Nothing,
+}
+
+// Whether a line's first field is the word with this name, and another field follows.
+pub fn begins(line: &[u8], name: &[u8]) -> bool
+    ensures { λ r. ⌜ r ≡ begun (now (line .entry)) (now (name .entry)) ⌝ }
 {
-    if word.len() != name.len() {
+    let end = name.len();
+    if line.len() <= end {
         return false;
     }
     let mut i: usize = 0;
-    while i < name.len() {
-        if word[i] != name[i] {
+    while i < end {
+        if line[i] != name[i] {
             return false;
         }
         i += 1;
     }
-    true
+    line[end] == b'\t'
 }
 
-// The words of three bytes.
-fn three(word: &[u8], count: usize, values: &[u64; 7]) -> Parsed
-    ensures { λ r. ⌜ r ≡ eventAmong (ret ∷ tpr ∷ ack ∷ int ∷ []) (now (word .entry)) count (now (values .entry)) ⌝ }
+// This word, where the line begins with its name, or what was found otherwise.
+fn pick(line: &[u8], name: &[u8], word: Word, takes: usize, otherwise: Named) -> Named
+    ensures { λ r. ⌜ r ≡ cond (begun (now (line .entry)) (now (name .entry))) (As word (length (now (name .entry))) takes) otherwise ⌝ }
 {
-    if equal(word, b"ret") {
-        return events::ret(count, values);
+    if begins(line, name) {
+        return Named::As {
+            word,
+            end: name.len(),
+            takes,
+        };
     }
-    if equal(word, b"tpr") {
-        return events::tpr(count, values);
-    }
-    if equal(word, b"ack") {
-        return events::ack(count, values);
-    }
-    if equal(word, b"int") {
-        return events::int(count, values);
-    }
-    Parsed::Malformed
+    otherwise
 }
 
-// The words of four bytes.
-fn four(word: &[u8], count: usize, values: &[u64; 7]) -> Parsed
-    ensures { λ r. ⌜ r ≡ eventAmong (envp ∷ call ∷ read ∷ rreg ∷ wreg ∷ caps ∷ []) (now (word .entry)) count (now (values .entry)) ⌝ }
+// The words that begin with c.
+fn words_in_c(line: &[u8]) -> Named
+    ensures { λ r. ⌜ r ≡ namedAmong (Call ∷ Config ∷ Caps ∷ []) (now (line .entry)) ⌝ }
 {
-    if equal(word, b"envp") {
-        return events::envp(count, values);
-    }
-    if equal(word, b"call") {
-        return events::call(count, values);
-    }
-    if equal(word, b"read") {
-        return events::read(count, values);
-    }
-    if equal(word, b"rreg") {
-        return events::rreg(count, values);
-    }
-    if equal(word, b"wreg") {
-        return events::wreg(count, values);
-    }
-    if equal(word, b"caps") {
-        return events::caps(count, values);
-    }
-    Parsed::Malformed
+    let caps = pick(line, b"caps", Word::Caps, 2, Named::Nothing);
+    let config = pick(line, b"config", Word::Config, 4, caps);
+    pick(line, b"call", Word::Call, 3, config)
 }
 
-// The words of five bytes.
-fn five(word: &[u8], count: usize, values: &[u64; 7]) -> Parsed
-    ensures { λ r. ⌜ r ≡ eventAmong (write ∷ fetch ∷ flush ∷ pstat ∷ vstat ∷ []) (now (word .entry)) count (now (values .entry)) ⌝ }
+// The words that begin with e.
+fn words_in_e(line: &[u8]) -> Named
+    ensures { λ r. ⌜ r ≡ namedAmong (Enpart ∷ Envp ∷ []) (now (line .entry)) ⌝ }
 {
-    if equal(word, b"write") {
-        return events::write(count, values);
-    }
-    if equal(word, b"fetch") {
-        return events::fetch(count, values);
-    }
-    if equal(word, b"flush") {
-        return events::flush(count, values);
-    }
-    if equal(word, b"pstat") {
-        return events::pstat(count, values);
-    }
-    if equal(word, b"vstat") {
-        return events::vstat(count, values);
-    }
-    Parsed::Malformed
+    let envp = pick(line, b"envp", Word::Envp, 7, Named::Nothing);
+    pick(line, b"enpart", Word::Enpart, 4, envp)
 }
 
-// The words of six bytes.
-fn six(word: &[u8], count: usize, values: &[u64; 7]) -> Parsed
-    ensures { λ r. ⌜ r ≡ eventAmong (enpart ∷ config ∷ secure ∷ []) (now (word .entry)) count (now (values .entry)) ⌝ }
+// The words that begin with f.
+fn words_in_f(line: &[u8]) -> Named
+    ensures { λ r. ⌜ r ≡ namedAmong (Fetch ∷ Flush ∷ []) (now (line .entry)) ⌝ }
 {
-    if equal(word, b"enpart") {
-        return events::enpart(count, values);
-    }
-    if equal(word, b"config") {
-        return events::config(count, values);
-    }
-    if equal(word, b"secure") {
-        return events::secure(count, values);
-    }
-    Parsed::Malformed
+    let flush = pick(line, b"flush", Word::Flush, 2, Named::Nothing);
+    pick(line, b"fetch", Word::Fetch, 3, flush)
 }
 
-// The words of seven bytes.
-fn seven(word: &[u8], count: usize, values: &[u64; 7]) -> Parsed
-    ensures { λ r. ⌜ r ≡ eventAmong (protect ∷ []) (now (word .entry)) count (now (values .entry)) ⌝ }
+// The words that begin with p.
+fn words_in_p(line: &[u8]) -> Named
+    ensures { λ r. ⌜ r ≡ namedAmong (Protect ∷ Pstat ∷ []) (now (line .entry)) ⌝ }
 {
-    if equal(word, b"protect") {
-        return events::protect(count, values);
-    }
-    Parsed::Malformed
+    let pstat = pick(line, b"pstat", Word::Pstat, 2, Named::Nothing);
+    pick(line, b"protect", Word::Protect, 4, pstat)
 }
 
-// The event that the word and the numbers after it say.
-pub fn event(word: &[u8], count: usize, values: &[u64; 7]) -> Parsed
-    ensures { λ r. ⌜ r ≡ eventAmong events (now (word .entry)) count (now (values .entry)) ⌝ }
+// The words that begin with r.
+fn words_in_r(line: &[u8]) -> Named
+    ensures { λ r. ⌜ r ≡ namedAmong (Ret ∷ Read ∷ Rreg ∷ []) (now (line .entry)) ⌝ }
 {
-    match word.len() {
-        3 => three(word, count, values),
-        4 => four(word, count, values),
-        5 => five(word, count, values),
-        6 => six(word, count, values),
-        7 => seven(word, count, values),
-        _ => Parsed::Malformed,
+    let rreg = pick(line, b"rreg", Word::Rreg, 4, Named::Nothing);
+    let read = pick(line, b"read", Word::Read, 3, rreg);
+    pick(line, b"ret", Word::Ret, 3, read)
+}
+
+// The words that begin with w.
+fn words_in_w(line: &[u8]) -> Named
+    ensures { λ r. ⌜ r ≡ namedAmong (Write ∷ Wreg ∷ []) (now (line .entry)) ⌝ }
+{
+    let wreg = pick(line, b"wreg", Word::Wreg, 5, Named::Nothing);
+    pick(line, b"write", Word::Write, 4, wreg)
+}
+
+// The event word that a line begins with.
+pub fn word_of(line: &[u8]) -> Named
+    ensures { λ r. ⌜ r ≡ namedAmong words (now (line .entry)) ⌝ }
+{
+    if line.len() == 0 {
+        return Named::Nothing;
+    }
+    match line[0] {
+        b'a' => pick(line, b"ack", Word::Ack, 2, Named::Nothing),
+        b'c' => words_in_c(line),
+        b'e' => words_in_e(line),
+        b'f' => words_in_f(line),
+        b'i' => pick(line, b"int", Word::Int, 3, Named::Nothing),
+        b'p' => words_in_p(line),
+        b'r' => words_in_r(line),
+        b's' => pick(line, b"secure", Word::Secure, 4, Named::Nothing),
+        b't' => pick(line, b"tpr", Word::Tpr, 3, Named::Nothing),
+        b'v' => pick(line, b"vstat", Word::Vstat, 2, Named::Nothing),
+        b'w' => words_in_w(line),
+        _ => Named::Nothing,
     }
 }

@@ -2,45 +2,23 @@
 use mathlib.Core.Bool.{Bool, true, false, cond}
 use mathlib.Core.List.{List, [], _∷_, _++_, append-assoc, append-nil}
 use mathlib.Core.Path.{_≡_, refl, sym, ap, _∙_}
-use Prim.Native.Nat.{ℕ, suc, _+_, _-_, _≤_, _<_, min}
-use borrow.Author.Tests.{eq-eqb, eqb-true, ne-eqb}
-use native.Mathlib.Nat.{add-zero}
+use Prim.Native.Nat.{ℕ, suc, _+_, _-_, _≤_, _<_, min, zero}
+use borrow.Author.Tests.{eqb-true}
 use native.Mathlib.Numerals.{add-one}
 use native.Mathlib.Omega.{arith}
 use lib.Dec.{eqb}
-use lib.ListN.{drop, drop-of-length-le, getD, length, length-drop, length-set, length-take, set, take, take-append-drop}
-use lib.Seq.{drop-cons, drop-drop, take-all, take-at, take-suc, take-suc-set}
+use lib.ListN.{drop, getD, length, length-drop, length-set, length-take, set, take, take-append-drop}
+use lib.Seq.{drop-drop, take-all, take-at, take-suc, take-suc-set}
+use Rattle.script.proofs.Places.{end-within as within}
 use Rattle.script.specs.Listing.{lineFeed}
+use Rattle.script.specs.Search.{untilByte}
 use Rattle.session.specs.Chunk.{lineEnd, untilFeed}
 use Rattle.listing.specs.Listing.{Lines, inFront, linesIn}
 use Rattle.session.specs.Session.{held}
 
--- The end of a line, from a place on: a line feed, another byte, and the chunk's end.
-module _ (chunk : List ℕ) (i : ℕ) where
-  pub end-at-feed : i < length chunk → getD chunk i 0 ≡ lineFeed → lineEnd chunk i ≡ i
-  unfolding untilFeed
-  end-at-feed h e = rw (drop-cons chunk i 0 h, eq-eqb _ lineFeed e) (add-zero i)
-
-  pub end-past-byte : i < length chunk → (getD chunk i 0 ≡ lineFeed → ⊥) → lineEnd chunk i ≡ lineEnd chunk (i + 1)
-  unfolding untilFeed
-  end-past-byte h e = rw (drop-cons chunk i 0 h, ne-eqb _ lineFeed e, add-one i) (omega arith)
-
-  pub end-at-end : length chunk ≤ i → lineEnd chunk i ≡ i
-  unfolding untilFeed
-  end-at-end h = rw (drop-of-length-le chunk h) (add-zero i)
-
-until-within : (bytes : List ℕ) → untilFeed bytes ≤ length bytes
-unfolding untilFeed
-until-within [] = omega arith
-until-within (byte ∷ bytes) = go (eqb byte lineFeed) (until-within bytes)
-  where
-    go : (t : Bool) → untilFeed bytes ≤ length bytes → cond t 0 (suc (untilFeed bytes)) ≤ suc (length bytes)
-    go true h = omega arith
-    go false h = omega arith
-
 -- A line ends within the chunk.
 pub end-within : (chunk : List ℕ) (start : ℕ) → start ≤ length chunk → (start ≤ lineEnd chunk start) × (lineEnd chunk start ≤ length chunk)
-end-within chunk start h = omega (arith, until-within (drop start chunk), length-drop start chunk)
+end-within chunk start h = within lineFeed chunk start h
 
 -- A line was ended by a line feed.
 abbrev pub withLine : List ℕ → Lines → Lines
@@ -49,7 +27,7 @@ withLine line more = record { complete = line ∷ more .complete; rest = more .r
 -- The lines of some bytes, where a line feed ends the first, and where there is no line feed.
 lines-first : (bytes : List ℕ) → untilFeed bytes < length bytes
     → linesIn bytes ≡ withLine (take (untilFeed bytes) bytes) (linesIn (drop (suc (untilFeed bytes)) bytes))
-unfolding linesIn untilFeed
+unfolding linesIn untilByte
 lines-first [] h = absurd (omega arith)
 lines-first (byte ∷ bytes) h = go (eqb byte lineFeed) (lines-first bytes) h
   where
@@ -61,7 +39,7 @@ lines-first (byte ∷ bytes) h = go (eqb byte lineFeed) (lines-first bytes) h
     go false more h = rw (more (omega arith))
 
 lines-none : (bytes : List ℕ) → length bytes ≤ untilFeed bytes → linesIn bytes ≡ record { complete = []; rest = bytes }
-unfolding linesIn untilFeed
+unfolding linesIn untilByte
 lines-none [] h = refl
 lines-none (byte ∷ bytes) h = go (eqb byte lineFeed) (lines-none bytes) h
   where
@@ -134,3 +112,15 @@ module _ {line₀ : List ℕ} {length₀ : ℕ} {more line : List ℕ} {at i : �
       let parts : held line₀ length₀ ++ more ≡ (held line₀ length₀ ++ take i more) ++ drop i more =
       sym (append-assoc (held line₀ length₀) (take i more) (drop i more) ∙ rw (take-append-drop i more)) in
       held-now ∙ w .bytes ∙ sym (ap (take 257) parts ∙ take-at (held line₀ length₀ ++ take i more) (drop i more) 257 size)
+
+-- The bytes that are held, as the first so many of the buffer.
+taken-again : (k : ℕ) (bytes : List ℕ) → take (length (take k bytes)) bytes ≡ take k bytes
+taken-again zero bytes = refl
+taken-again (suc k) [] = refl
+taken-again (suc k) (byte ∷ bytes) = ap (λ (l : List ℕ). byte ∷ l) (taken-again k bytes)
+
+pub held-taken : (line : List ℕ) (size n : ℕ) → n ≡ length (held line size) → take n line ≡ held line size
+held-taken line size n e = rw e (taken-again (min size 257) line)
+
+pub held-within : (line : List ℕ) (size n : ℕ) → n ≡ length (held line size) → n ≤ length line
+held-within line size n e = omega (arith, length-take (min size 257) line)

@@ -12,13 +12,17 @@ use lib.Seq.{length-take-le, sets, take-all, take-at}
 use Rattle.decimal.proofs.Room.{after-room, with-room}
 use Rattle.decimal.specs.Write.{afterText, withText}
 use Rattle.model.proofs.Bools.{and-right, hold}
+use Rattle.model.proofs.Keeps.{step-keeps}
 use Rattle.model.specs.Answers.{numberOf, valueOf}
 use Rattle.model.specs.Fresh.{admissible, fresh}
-use Rattle.model.specs.State.{State, active, activeOf, isProcessor, noVp, pastVp, processors, vp}
-use Rattle.model.specs.Step.{Outcome}
+use Rattle.model.specs.State.{State, active, activeOf, isProcessor, level, noVp, pastVp, processors, vp}
+use Rattle.model.specs.Step.{Outcome, nextFor, step}
+use Rattle.model.specs.WellFormed.{wellFormed}
+use Rattle.model.specs.declared.answer.Answer.{Answer}
+use Rattle.model.specs.declared.answer.Answer.the-variants.{Refused}
+use Rattle.model.specs.declared.answer.Refusal.the-variants.{Malformed}
 use Rattle.model.specs.declared.event.Event.{Event}
 use Rattle.model.specs.declared.machine.FirstLine.{FirstLine}
-use Rattle.model.specs.declared.machine.Machine.{Machine}
 use Rattle.model.specs.declared.quantity.Level.{Level}
 use Rattle.model.specs.declared.quantity.Processor.{Processor}
 use Rattle.script.proofs.Cells.{line-at-most}
@@ -30,13 +34,12 @@ use Rattle.script.specs.declared.Parsed.{Parsed}
 use Rattle.script.specs.declared.Parsed.the-variants as parsed
 use Rattle.script.specs.declared.Start.{Start}
 use Rattle.script.specs.declared.Start.the-variants as start
-use Rattle.step.specs.Stepped.{stateOf, stepped}
-use Rattle.model.specs.Step.{step}
-use Rattle.step.specs.declared.Stepped.{Stepped}
+use Rattle.step.proofs.Whole.{step-as-if}
+use Rattle.step.specs.Stepped.{stepIf}
 use Rattle.session.specs.declared.Phase.{Phase}
 use Rattle.session.specs.declared.Phase.the-variants as phase
 use Rattle.listing.specs.Answer.{answerText, isKnown, levelOn}
-use Rattle.listing.specs.Listing.{answered, levelColumn, numberAfter, processorOf, stateBy}
+use Rattle.listing.specs.Listing.{answered, levelColumn, numberAfter, processorOf, recordOf, stateBy}
 use Rattle.session.specs.Parts.{blankIn, hasStopped, isLater}
 use Rattle.session.specs.Session.{Progress, begun, continued, ended, extended, first, held, isStopped, kept, lastText, later, lentOf, progressIn, roomFor, stopped}
 
@@ -90,6 +93,11 @@ active-read s v = go (isKnown v (s .machine .processors)) refl
     go true e = let h : v % 4 ≡ v = omega (arith, ltb-true v 4 (and-right (ltb v (s .machine .processors)) (ltb v 4) e)) in rw h
     go false e = refl
 
+-- A state that is not well formed stays as it is.
+refused-next : (s : State) (e : Event) → wellFormed s ≡ false → step s e .next ≡ s
+unfolding step nextFor
+refused-next s e w = rw w
+
 -- The record of an answer, as the code has it.
 pub answer-record : (o : Outcome) (v : Processor) (number : ℕ)
     → answerText number (o .answer) (levelOn (v .0) (o .next .machine .processors) (getD (o .next .machine .vps) (v .0 % 4) pastVp .active .0))
@@ -109,33 +117,41 @@ pub first-done : (line : List ℕ) (f : FirstLine) → lineFirst line ≡ start.
 unfolding ended
 first-done line f e h = rw (e, h)
 
--- The end of a later line that is malformed, and of one that says an event.
-pub ended-malformed : (number : ℕ) (s : State) (line : List ℕ) → lineEvent line ≡ parsed.Malformed
-    → ended (later number s line) ≡ continued number (answered s parsed.Malformed)
+-- The end of a later line.
+pub ended-by : (number : ℕ) (s next : State) (line text : List ℕ) → next ≡ answered s (lineEvent line) .next → text ≡ recordOf number (answered s (lineEvent line))
+    → (later (numberAfter number) next [] ≡ ended (later number s line) .progress) × (text ≡ ended (later number s line) .text)
 unfolding ended
-ended-malformed number s line e = rw e
+ended-by number s next line text n t = (rw n, t)
 
-pub ended-event : (number : ℕ) (s : State) (line : List ℕ) (e : Event) → lineEvent line ≡ parsed.Event e
-    → ended (later number s line) ≡ continued number (answered s (parsed.Event e))
-unfolding ended
-ended-event number s line e h = rw h
+-- A line that is malformed: nothing changes.
+pub told-malformed : (number : ℕ) (s : State) (line : List ℕ) → lineEvent line ≡ parsed.Malformed
+    → (s ≡ answered s (lineEvent line) .next) × (answerText number (Refused Malformed) (level 0) ≡ recordOf number (answered s (lineEvent line)))
+told-malformed number s line e = rw e (refl, refl)
 
--- A later line says an event: what the code has after the step, and after the words that it lent have come back.
-module _ (number : ℕ) (m : Machine) (words line : List ℕ) (k : ℕ) (e : Event) (said : lineEvent line ≡ parsed.Event e)
-    (r : Stepped) (stepped-to : r ≡ stepped (step (stateOf m (take k words)) e))
-    (lent : List ℕ) (left : lent ≡ step (stateOf m (take k words)) e .next .words)
+-- A line that says an event: the state, the record, and whether the state is well formed.
+module _ (number : ℕ) (s next : State) (line : List ℕ) (e : Event) (said : lineEvent line ≡ parsed.Event e) (formed : Bool) (well : formed ≡ wellFormed s)
+    (a : Answer) (done : record { answer = a; next = next } ≡ stepIf formed s e)
   where
-    pub event-progress : k ≤ length words → length lent ≡ length (take k words)
-        → later (numberAfter number) (stateOf (r .machine) (take k (lent ++ drop k words))) []
-        ≡ ended (later number (stateOf m (take k words)) line) .progress
-    event-progress h size = rw (words-back words lent k h size, ended-event number (stateOf m (take k words)) line e said, stepped-to, left)
+    stepped : record { answer = a; next = next } ≡ step s e
+    stepped = done ∙ step-as-if formed s e well
 
-    pub event-text : (v : Processor) → v ≡ processorOf e
-        → (active : Level) → active ≡ levelOn (v .0) (r .machine .processors) (getD (r .machine .vps) (v .0 % 4) pastVp .active .0)
-        → answerText number (r .answer) active ≡ ended (later number (stateOf m (take k words)) line) .text
-    event-text v on active there =
-        rw (there, on, ended-event number (stateOf m (take k words)) line e said, stepped-to)
-        (answer-record (step (stateOf m (take k words)) e) (processorOf e) number)
+    pub told-next : next ≡ answered s (lineEvent line) .next
+    told-next = rw said (ap (λ (o : Outcome). o .next) stepped)
+
+    pub told-formed : formed ≡ wellFormed next
+    told-formed = well ∙ go (wellFormed s) refl ∙ sym (ap (λ (o : Outcome). wellFormed (o .next)) stepped)
+      where
+        go : (b : Bool) → wellFormed s ≡ b → wellFormed s ≡ wellFormed (step s e .next)
+        go true w = w ∙ sym (step-keeps s e w)
+        go false w = sym (ap wellFormed (refused-next s e w))
+
+    pub told-text : (v : Processor) → v ≡ processorOf e
+        → (on : Level) → on ≡ levelOn (v .0) (next .machine .processors) (getD (next .machine .vps) (v .0 % 4) pastVp .active .0)
+        → answerText number a on ≡ recordOf number (answered s (lineEvent line))
+    told-text v here on there =
+        let written : answerText number a on ≡ listingLine number (numberOf a) (valueOf a) (levelColumn (record { answer = a; next = next }) (processorOf e)) =
+        rw (there, ← here) (answer-record (record { answer = a; next = next }) v number) in
+        rw said (written ∙ ap (λ (o : Outcome). listingLine number (numberOf (o .answer)) (valueOf (o .answer)) (levelColumn o (processorOf e))) stepped)
 
 -- At the end of a script: a later line that has no bytes, and any other line.
 pub last-none : (p : Phase) (number : ℕ) (s : State) (line : List ℕ) → (isLater p && eqb (length line) 0) ≡ true

@@ -7,13 +7,11 @@ use Prim.Native.Nat.{ℕ, _+_}
 use lib.ListN.{length}
 use lib.Seq.{sets}
 use Rattle.model.specs.State.{State}
-use Rattle.step.specs.Stepped.{stateOf}
 use Rattle.session.specs.declared.Fed.{Fed}
 use Rattle.session.specs.declared.Phase.{Phase}
 use Rattle.session.specs.declared.Phase.the-variants as phase
-use Rattle.session.specs.declared.Session.{Session}
 use Rattle.session.specs.declared.lines.Written.{Written}
-use Rattle.session.specs.Session.{Ended, Feeding, Progress, first, later, lentOf, progressOf, stopped}
+use Rattle.session.specs.Session.{Ended, Feeding, Progress, first, later, progressOf, stopped}
 
 -- The phases of a session.
 abbrev pub hasStopped : Phase → Bool
@@ -31,10 +29,6 @@ abbrev pub blankIn : Phase → State → Progress
 blankIn phase.First s = first []
 blankIn phase.Later s = later 0 s []
 blankIn phase.Stopped s = stopped
-
--- The state of a session.
-abbrev pub stateIn : Session → State
-stateIn s = stateOf (s .machine) (lentOf (s .words) (s .lent))
 
 -- A line was ended: the session after it, and its record at the start of the buffer.
 pub record EndedBy (e : Ended) (r : Written) (before after : List ℕ) : Type 0 where

@@ -10,7 +10,7 @@ use lib.ListN.{length, take}
 use Rattle.model.specs.State.{State}
 use Rattle.script.specs.Events.{lineEvent}
 use Rattle.script.specs.First.{lineFirst}
-use Rattle.step.specs.Stepped.{stateOf}
+use Rattle.state.specs.Parts.{machineOf, stateOf}
 use Rattle.session.specs.declared.Phase.{Phase}
 use Rattle.session.specs.declared.Phase.the-variants as phase
 use Rattle.session.specs.declared.Session.{Session}
@@ -39,10 +39,13 @@ held buffer length = take (min length 257) buffer
 abbrev pub lentOf : List ℕ → ℕ → List ℕ
 lentOf words lent = take (min lent 64) words
 
+-- The state of a session.
+abbrev pub stateIn : Session → State
+stateIn s = stateOf (machineOf (s .setup) (s .levels) (s .masks) (s .first ∷ s .second ∷ s .third ∷ s .fourth ∷ [])) (lentOf (s .words) (s .lent))
+
 -- What a session stands for. The buffer beyond the bytes of the line, and the words beyond those of the pages, are no part of it.
 abbrev pub progressOf : Session → Progress
-progressOf s =
-    progressIn (s .phase) (s .number) (stateOf (s .machine) (lentOf (s .words) (s .lent))) (held (s .line) (s .length))
+progressOf s = progressIn (s .phase) (s .number) (stateIn s) (held (s .line) (s .length))
 
 -- Nothing is read after a refused first line.
 abbrev pub isStopped : Progress → Bool

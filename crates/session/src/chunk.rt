@@ -9,6 +9,7 @@ ghost use Rattle.session.specs.Chunk.{lineEnd};
 ghost use Rattle.session.specs.Session.{held};
 use script::Parsed;
 use script::Start;
+use script::search::find_far_byte;
 
 // A line has at most 256 bytes; one more is kept, so that a longer line is known to be too long.
 const KEPT: usize = 257;
@@ -24,14 +25,7 @@ pub(crate) fn at_most(n: usize, most: usize) -> usize
 pub(crate) fn line_end(chunk: &[u8], start: usize) -> usize
     ensures { λ r. ⌜ r ≡ lineEnd (now (chunk .entry)) start ⌝ }
 {
-    let mut i = start;
-    while i < chunk.len() {
-        if chunk[i] == b'\n' {
-            return i;
-        }
-        i += 1;
-    }
-    i
+    find_far_byte(chunk, start, b'\n')
 }
 
 // Puts more bytes after the first `length` of a line, as far as there is room, and returns how many it then has.

@@ -5,9 +5,11 @@ ghost use mathlib.Core.Path.{_≡_};
 ghost use lib.ListN.{length};
 ghost use lib.Seq.{sets};
 ghost use Rattle.session.specs.Session.{Bounds, fed, first, isStopped, lastText, progressOf};
-use model::machine::Machine;
+use model::machine::PartitionLevel;
+use processor::record::Record;
+use state::parts::Setup;
 
-mod answer; // the record of an answer
+mod answer; // a line answered, and its record
 mod chunk; // lines in a chunk
 mod lines; // lines that end
 
@@ -26,8 +28,15 @@ pub struct Session {
     // The beginning of a line that goes on in the next chunk: so many bytes of the buffer.
     length: usize,
     line: [u8; 257],
-    // The machine, and the words of its pages: so many of the array.
-    machine: Machine,
+    // The machine in its parts: what stays the same, the levels' records, the masks, and the records of four processors.
+    setup: Setup,
+    levels: [PartitionLevel; 4],
+    masks: [u64; 256],
+    first: Record,
+    second: Record,
+    third: Record,
+    fourth: Record,
+    // The words of its pages: so many of the array.
     lent: usize,
     words: [u64; 64],
 }

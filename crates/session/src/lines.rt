@@ -1,27 +1,29 @@
 // Lines that end: the first, later ones, and those that lie whole in a chunk. What is written is the record of the line.
 ghost use mathlib.Core.Bool.{true};
-ghost use mathlib.Core.List.{[]};
+ghost use mathlib.Core.List.{[], _∷_};
 ghost use mathlib.Core.Option.{none, some};
 ghost use mathlib.Core.Path.{_≡_};
 ghost use Prim.Native.Nat.{min, _-_, _≤_};
-ghost use lib.ListN.{drop, length};
+ghost use lib.ListN.{drop, length, replicate};
 ghost use Rattle.model.specs.Fresh.{admissible, fresh};
-ghost use Rattle.step.specs.Stepped.{stateOf};
-ghost use Rattle.session.specs.Parts.{EndedBy, FedFrom, blankIn, hasStopped, isLater, stateIn};
-ghost use Rattle.session.specs.Session.{begun, ended, extended, fed, first, held, kept, later, lentOf, progressOf};
+ghost use Rattle.state.specs.Parts.{machineOf, stateOf};
+ghost use Rattle.session.specs.Parts.{EndedBy, FedFrom, blankIn, hasStopped, isLater};
+ghost use Rattle.session.specs.Session.{begun, ended, extended, fed, first, held, kept, later, lentOf, progressIn, progressOf, stateIn};
 use crate::Fed;
 use crate::Phase;
 use crate::Session;
-use crate::answer;
+use crate::answer::answer_line;
 use crate::chunk;
-use model::answer::Answer;
-use model::answer::Refusal;
 use model::machine::FirstLine;
-use model::machine::Machine;
-use model::quantity::Level;
-use script::Parsed;
+use model::machine::PartitionLevel;
+use processor::record::Record;
 use script::Start;
 use script::listing::write_line;
+use state::formed::well_formed;
+use state::fresh::fresh_levels;
+use state::fresh::fresh_masks;
+use state::fresh::fresh_record;
+use state::fresh::setup_of;
 
 // The longest record has so many bytes.
 pub const LONGEST: usize = 84;
@@ -53,6 +55,29 @@ pub(crate) fn is_later(phase: Phase) -> bool
     }
 }
 
+// The session of a phase with the machine that a first line describes. It holds nothing of a line, and all words are 0.
+fn opened(phase: Phase, number: u64, f: FirstLine, lent: usize) -> Session
+    ensures progress { λ r. ⌜ progressOf r ≡ progressIn phase number (stateIn r) [] ⌝ }
+    ensures state { λ r. ⌜ stateIn r ≡ stateOf (fresh f .machine) (lentOf (replicate 64 0) lent) ⌝ }
+{
+    let record = fresh_record();
+    Session {
+        phase,
+        number,
+        length: 0,
+        line: [0; 257],
+        setup: setup_of(f),
+        levels: fresh_levels(),
+        masks: fresh_masks(),
+        first: record,
+        second: record,
+        third: record,
+        fourth: record,
+        lent,
+        words: [0; 64],
+    }
+}
+
 // A session that holds nothing of a line. Its machine has no processor.
 pub(crate) fn blank(phase: Phase) -> Session
     ensures { λ r. ⌜ progressOf r ≡ blankIn phase (stateIn r) ⌝ }
@@ -64,29 +89,38 @@ pub(crate) fn blank(phase: Phase) -> Session
         dr6_shared: 0,
         host_mask: 0,
     };
-    let machine = state::fresh::fresh(none);
-    Session {
-        phase,
-        number: 0,
-        length: 0,
-        line: [0; 257],
-        machine,
-        lent: 0,
-        words: [0; 64],
-    }
+    opened(phase, 0, none, 0)
 }
 
-// A session before a later line, in the state that the line before it left.
-fn resume(s: Session, number: u64, machine: Machine, words: [u64; 64]) -> Session
-    ensures { λ r. ⌜ progressOf r ≡ later number (stateOf machine (lentOf words (s .lent))) [] ⌝ }
+// The session before a later line, with the machine and the words that the line before it left.
+fn resume(
+    s: Session,
+    number: u64,
+    levels: [PartitionLevel; 4],
+    masks: [u64; 256],
+    vps: [Record; 4],
+    words: [u64; 64],
+) -> Session
+    ensures { λ r. ⌜ progressOf r ≡ later number (stateOf (machineOf (s .setup) levels masks vps) (lentOf words (s .lent))) [] ⌝ }
 {
     let line = s.line;
+    let setup = s.setup;
+    let first = vps[0];
+    let second = vps[1];
+    let third = vps[2];
+    let fourth = vps[3];
     Session {
         phase: Phase::Later,
         number,
         length: 0,
         line,
-        machine,
+        setup,
+        levels,
+        masks,
+        first,
+        second,
+        third,
+        fourth,
         lent: s.lent,
         words,
     }
@@ -118,16 +152,7 @@ fn begin(f: FirstLine, out: &mut [u8]) -> Written
     requires { ⌜ admissible f ≡ true ⌝ }
     ensures { λ r. ⌜ EndedBy (begun (some (fresh f))) r (now (out .entry)) (now (out .exit)) ⌝ }
 {
-    let machine = state::fresh::fresh(f);
-    let session = Session {
-        phase: Phase::Later,
-        number: 1,
-        length: 0,
-        line: [0; 257],
-        machine,
-        lent: f.pages as usize,
-        words: [0; 64],
-    };
+    let session = opened(Phase::Later, 1, f, f.pages as usize);
     let wrote = write_line(out, 0, 0, 0, 0, 0);
     Written { session, wrote }
 }
@@ -156,6 +181,17 @@ fn lent_words(words: &[u64; 64], lent: usize) -> usize
     chunk::at_most(lent, all.len())
 }
 
+// The records of the four processors of a session.
+fn records(s: Session) -> [Record; 4]
+    ensures { λ r. ⌜ r ≡ s .first ∷ s .second ∷ s .third ∷ s .fourth ∷ [] ⌝ }
+{
+    let first = s.first;
+    let second = s.second;
+    let third = s.third;
+    let fourth = s.fourth;
+    [first, second, third, fourth]
+}
+
 // Ends a later line.
 fn end_later(s: Session, out: &mut [u8]) -> Written
     requires { ⌜ 84 ≤ length (now out) ⌝ }
@@ -164,24 +200,32 @@ fn end_later(s: Session, out: &mut [u8]) -> Written
     let line = s.line;
     let number = s.number;
     let next = std::num::wrapping_add_u64(number, 1);
-    let machine = s.machine;
+    let setup = s.setup;
+    let levels = s.levels;
+    let mut masks = s.masks;
+    let mut vps = records(s);
     let mut words = s.words;
     let lent = lent_words(&words, s.lent);
-    let Parsed::Event(e) = chunk::parse(&line, s.length) else {
-        let refused = Answer::Refused(Refusal::Malformed);
-        let wrote = answer::write_answer(out, 0, number, refused, Level(0));
-        let session = resume(s, next, machine, words);
-        return Written { session, wrote };
-    };
-    let v = listing::processor_of(e).0;
-    let r = step::step(machine, &mut words[..lent], e);
-    let after = r.machine;
-    let a = r.answer;
-    let place = (v % 4) as usize;
-    let active = listing::level_on(v, after.processors, after.vps[place].active.0);
-    let wrote = answer::write_answer(out, 0, number, a, active);
-    let session = resume(s, next, after, words);
-    Written { session, wrote }
+    let formed = well_formed(setup, levels, &masks, &vps, &words[..lent]);
+    let size = chunk::held_length(&line, s.length);
+    let told = answer_line(
+        formed,
+        setup,
+        levels,
+        &mut masks,
+        &mut vps,
+        &mut words[..lent],
+        number,
+        &line[..size],
+        out,
+        0,
+    );
+    let changed = told.levels;
+    let session = resume(s, next, changed, masks, vps, words);
+    Written {
+        session,
+        wrote: told.at,
+    }
 }
 
 // Ends the line whose bytes the session holds.
@@ -201,7 +245,8 @@ pub(crate) fn end_line(s: Session, out: &mut [u8]) -> Written
 }
 
 // Feeds a session that holds no bytes of a line what is left of a chunk from `from` on; the records go into `out` from `at` on.
-// The machine stays in one local, and a line is read where it lies in the chunk.
+// The machine stays in locals of this loop, which lends them; a line is read where it lies in the chunk. Whether the state is well
+// formed is asked once, since every line keeps it so.
 pub(crate) fn feed_later(
     start: Session,
     chunk: &[u8],
@@ -213,44 +258,50 @@ pub(crate) fn feed_later(
     requires { ⌜ at ≤ length (now out) ⌝ }
     ensures { λ r. ⌜ FedFrom from at (fed (later (start .number) (stateIn start) []) (drop from (now (chunk .entry))) (length (now (out .entry)) - at)) r (now (out .entry)) (now (out .exit)) ⌝ }
 {
-    let mut machine = start.machine;
+    let setup = start.setup;
+    let mut levels = start.levels;
+    let mut masks = start.masks;
+    let mut vps = records(start);
     let mut words = start.words;
     let mut number = start.number;
     let lent = lent_words(&words, start.lent);
+    let formed = well_formed(setup, levels, &masks, &vps, &words[..lent]);
     let mut i = from;
     let mut o = at;
     loop {
         let end = chunk::line_end(chunk, i);
         if chunk.len() <= end {
+            let session = resume(start, number, levels, masks, vps, words);
             return Fed {
-                session: keep(resume(start, number, machine, words), &chunk[i..]),
+                session: keep(session, &chunk[i..]),
                 used: end,
                 wrote: o,
             };
         }
         if out.len() - o < LONGEST {
             return Fed {
-                session: resume(start, number, machine, words),
+                session: resume(start, number, levels, masks, vps, words),
                 used: i,
                 wrote: o,
             };
         }
-        let parsed = script::parse(&chunk[i..end]);
-        let line_number = number;
-        number = std::num::wrapping_add_u64(number, 1);
+        let line = &chunk[i..end];
         i = end + 1;
-        let Parsed::Event(e) = parsed else {
-            let refused = Answer::Refused(Refusal::Malformed);
-            o = answer::write_answer(out, o, line_number, refused, Level(0));
-            continue;
-        };
-        let v = listing::processor_of(e).0;
-        let r = step::step(machine, &mut words[..lent], e);
-        machine = r.machine;
-        let a = r.answer;
-        // The place for v, which is read only where there is a processor v.
-        let place = (v % 4) as usize;
-        let active = listing::level_on(v, machine.processors, machine.vps[place].active.0);
-        o = answer::write_answer(out, o, line_number, a, active);
+        let told = answer_line(
+            formed,
+            setup,
+            levels,
+            &mut masks,
+            &mut vps,
+            &mut words[..lent],
+            number,
+            line,
+            out,
+            o,
+        );
+        let changed = told.levels;
+        levels = changed;
+        o = told.at;
+        number = std::num::wrapping_add_u64(number, 1);
     }
 }

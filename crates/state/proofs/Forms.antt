@@ -1,13 +1,14 @@
 -- Laws of the tests that make a processor well formed. Assumes nothing.
 use mathlib.Core.Path.{_≡_, refl, sym, _∙_}
-use mathlib.Core.Bool.{Bool, true, false, not, _&&_, _||_}
+use mathlib.Core.Bool.{Bool, true, false, not, cond, _&&_, _||_, and-false, false≢true}
 use mathlib.Core.List.{List, [], _∷_}
 use Prim.Native.Nat.{ℕ, _≤_, _<_}
 use native.Mathlib.Omega.{arith}
 use lib.Dec.{leb, ltb, eqb}
-use lib.ListN.{getD}
+use lib.ListN.{getD, getD-replicate}
 use borrow.Author.Tests.{leb-false, lt-leb, ltb-true, ltb-false, le-ltb}
 use Rattle.word.specs.Field.{field, bit}
+use Rattle.model.proofs.Bools.{and-right, implies-test, all-hold}
 use Rattle.model.proofs.Bounded.{every-at, every-all}
 use Rattle.model.specs.declared.machine.Context.{Context}
 use Rattle.model.specs.declared.machine.Control.{Control}
@@ -16,10 +17,9 @@ use Rattle.model.specs.declared.machine.VirtualProcessor.{VirtualProcessor}
 use Rattle.model.specs.Arrays.{numberAt}
 use Rattle.model.specs.Bounded.{every, allOf, bits}
 use Rattle.model.specs.Masks.{secureReservedSet}
-use Rattle.model.specs.State.{State, shape, context, activeOf, enabledAt, enabledFor, mbecFor, mbecBit}
+use Rattle.model.specs.State.{State, shape, top, isLevel, context, noContext, pastContext, activeOf, enabledAt, enabledFor, mbecFor, mbecBit}
 use Rattle.model.specs.WellFormed.{_implies_, wellEntered, wellFormedContext, wellFormedVp}
 use Rattle.state.specs.Processor.{wellFormedAt, wellFormedProcessor}
-use Rattle.processor.proofs.Levels.{enabled-past}
 use Rattle.model.proofs.Sets.{bit-past, bits-lt, bit-bits}
 
 -- Tests that hold together, joined from the left as the code joins them.
@@ -90,6 +90,52 @@ context-joined l on mbec fromOn c =
     ∷ eqb (field 0 16 (getD (c .pending) 0 0)) 0
     ∷ (c .enabled || (eqb (getD (c .pending) 0 0) 0 && eqb (getD (c .pending) 1 0) 0 && eqb (getD (c .pending) 2 0) 0 && eqb (getD (c .pending) 3 0) 0))
     ∷ [])
+
+-- The empty record of a level is well formed, so a level that is none of the machine's needs no test.
+nothing-held : (j : ℕ) → numberAt 4 (noContext .secure) j ≡ 0
+unfolding numberAt
+nothing-held j = go (ltb j 4) refl
+  where
+    go : (b : Bool) → ltb j 4 ≡ b → cond b (getD (noContext .secure) j 0) 0 ≡ 0
+    go true e = getD-replicate 4 j 0 0 (ltb-true j 4 e)
+    go false e = refl
+
+none-formed : (l : ℕ) (on mbec fromOn : Bool) → wellFormedContext l on mbec fromOn noContext ≡ true
+unfolding wellFormedContext
+none-formed l on mbec fromOn =
+    all-hold _ (
+      refl,
+      (
+        implies-test (ltb 0 l && false) _ (λ e. absurd (false≢true (and-right (ltb 0 l) false e))),
+        (
+          every-all l _ (λ j h. rw (nothing-held j)),
+          (refl, (rw (nothing-held 0), (every-all 4 _ (λ i h. rw (nothing-held i)), tt))),
+        ),
+      ),
+    )
+
+pub known-formed : (known : Bool) (l : ℕ) (on mbec : Bool) (set : ℕ) (c : Context)
+    → (not known || wellFormedContext l on mbec (bit set (c .control .from .0)) c)
+    ≡ (let k = cond known c noContext in wellFormedContext l on mbec (bit set (k .control .from .0)) k)
+known-formed true l on mbec set c = refl
+known-formed false l on mbec set c = sym (none-formed l on mbec (bit set 0))
+
+-- How the code reads a level, and what it says of one past the fourth.
+pub context-read : (z : Shape) (p : VirtualProcessor) (l : ℕ) → cond (isLevel z l) (getD (p .contexts) l pastContext) noContext ≡ context z p l
+unfolding context
+context-read z p l = refl
+
+pub enabled-read : (z : Shape) (p : VirtualProcessor) (l : ℕ) → (isLevel z l && getD (p .contexts) l pastContext .enabled) ≡ enabledAt z p l
+unfolding enabledAt context
+enabled-read z p l = go (isLevel z l)
+  where
+    go : (b : Bool) → (b && getD (p .contexts) l pastContext .enabled) ≡ cond b (getD (p .contexts) l pastContext) noContext .enabled
+    go true = refl
+    go false = refl
+
+enabled-past : (z : Shape) (p : VirtualProcessor) (l : ℕ) → 4 ≤ l → enabledAt z p l ≡ false
+unfolding isLevel
+enabled-past z p l h = sym (enabled-read z p l) ∙ rw (le-ltb l 4 h, and-false (leb l (top z)))
 
 -- A level is enabled where it is in the processor's set.
 pub enabled-bit : (z : Shape) (p : VirtualProcessor) (l : ℕ) → bit (bits 4 (enabledAt z p)) l ≡ enabledAt z p l

@@ -3,10 +3,13 @@ ghost use mathlib.Core.Path.{_≡_};
 ghost use mathlib.Core.Bool.{cond};
 ghost use Rattle.model.specs.State.{noContext};
 ghost use Rattle.model.specs.WellFormed.{wellFormed};
+ghost use Rattle.processor.specs.Record.{vpOf};
 ghost use Rattle.state.specs.Formed.{sizes, moded, modedVp, place};
+ghost use Rattle.state.specs.Parts.{machineOf, stateOf};
 use crate::formed_processor::well_formed_processor;
+use crate::parts::Setup;
 use model::machine::Context;
-use model::machine::Machine;
+use model::machine::PartitionLevel;
 use model::machine::Shape;
 use model::machine::VirtualProcessor;
 use model::quantity::Level;
@@ -15,7 +18,9 @@ use partition::level::enabled_level_set;
 use partition::level::mbec_for;
 use partition::level::mbec_level_set;
 use partition::mask::valid_mask;
-use processor::context::is_level;
+use processor::record::Record;
+use processor::record::is_level;
+use processor::typed::record_of;
 use word::field::has_bit;
 
 // Are the numbers of processors and of pages and the maximum level in range, with one word for each page?
@@ -49,29 +54,36 @@ fn well_moded_vp(z: Shape, p: VirtualProcessor) -> bool
 }
 
 // Is a place for a processor well formed? It is where there is no processor; what lies there is no part of the state.
-fn well_formed_place(known: bool, z: Shape, p: VirtualProcessor, enabled: u64, mbec: u64) -> bool
-    ensures { λ r. ⌜ r ≡ place known z p enabled mbec ⌝ }
+fn well_formed_place(known: bool, z: Shape, words: &Record, enabled: u64, mbec: u64) -> bool
+    ensures { λ r. ⌜ r ≡ place known z (vpOf (now (words .entry))) enabled mbec ⌝ }
 {
+    let p = record_of(words);
     let formed = well_formed_processor(z, p, enabled, mbec);
     let protected = well_moded_vp(z, p);
     !known | (formed & protected)
 }
 
-// Is the state of the machine with the words of its pages well formed?
-pub fn well_formed(m: Machine, words: &[u64]) -> bool
-    ensures { λ r. ⌜ r ≡ wellFormed (record { machine = m; words = now (words .entry) }) ⌝ }
+// Is the state of the machine of these parts, with the words of its pages, well formed?
+pub fn well_formed(
+    c: Setup,
+    levels: [PartitionLevel; 4],
+    masks: &[u64; 256],
+    vps: &[Record; 4],
+    words: &[u64],
+) -> bool
+    ensures { λ r. ⌜ r ≡ wellFormed (stateOf (machineOf c levels (now (masks .entry)) (now (vps .entry))) (now (words .entry))) ⌝ }
 {
-    let z = m.shape;
+    let z = c.shape;
     let count = words.len() as u64;
-    let sized = well_sized(m.processors, z.max_level.0, m.pages, count);
-    let enabled = enabled_level_set(z, m.levels);
-    let mbec = mbec_level_set(z, m.levels);
-    let zeroth = well_formed_place(0 < m.processors, z, m.vps[0], enabled, mbec);
-    let first = well_formed_place(1 < m.processors, z, m.vps[1], enabled, mbec);
-    let second = well_formed_place(2 < m.processors, z, m.vps[2], enabled, mbec);
-    let third = well_formed_place(3 < m.processors, z, m.vps[3], enabled, mbec);
-    let levels = well_formed_levels(z, m.pages, m.levels, &m.masks);
-    let host = valid_mask(m.host_mask);
-    let lowest = mbec_for(z, m.levels, Level(0));
-    sized & (zeroth & first & second & third) & levels & host & !lowest
+    let sized = well_sized(c.processors, z.max_level.0, c.pages, count);
+    let enabled = enabled_level_set(z, levels);
+    let mbec = mbec_level_set(z, levels);
+    let zeroth = well_formed_place(0 < c.processors, z, &vps[0], enabled, mbec);
+    let first = well_formed_place(1 < c.processors, z, &vps[1], enabled, mbec);
+    let second = well_formed_place(2 < c.processors, z, &vps[2], enabled, mbec);
+    let third = well_formed_place(3 < c.processors, z, &vps[3], enabled, mbec);
+    let protections = well_formed_levels(z, c.pages, levels, masks);
+    let host = valid_mask(c.host_mask);
+    let lowest = mbec_for(z, levels, Level(0));
+    sized & (zeroth & first & second & third) & protections & host & !lowest
 }

@@ -14,8 +14,7 @@ use model::machine::Shape;
 use model::machine::VirtualProcessor;
 use model::set::in_set;
 use model::set::level_set;
-use processor::context::is_level;
-use processor::context::known_context;
+use processor::record::is_level;
 use word::field::has_bit;
 use word::field::take;
 
@@ -68,13 +67,13 @@ pub fn well_formed_context(l: u64, on: bool, mbec: bool, from_on: bool, c: Conte
 }
 
 // Is what a processor keeps at level l well formed, where the processor's enabled levels are the set `on`, and the partition's
-// enabled levels and those with MBEC are the sets `enabled` and `mbec`?
+// enabled levels and those with MBEC are the sets `enabled` and `mbec`? Beyond M it is: the empty record is well formed.
 fn well_formed_at(z: Shape, kept: Context, l: u64, on: u64, enabled: u64, mbec: u64) -> bool
     ensures { λ r. ⌜ (let c = cond (isLevel z l) kept noContext in r ≡ wellFormedContext l (bit enabled l) (bit mbec l) (bit on (c .control .from .0)) c) ⌝ }
 {
-    let c = known_context(is_level(z, l), kept);
-    let from = c.control.from.0;
-    well_formed_context(l, in_set(enabled, l), in_set(mbec, l), in_set(on, from), c)
+    let from_on = in_set(on, kept.control.from.0);
+    let formed = well_formed_context(l, in_set(enabled, l), in_set(mbec, l), from_on, kept);
+    !is_level(z, l) | formed
 }
 
 // Is the processor well formed, where the partition's enabled levels and those with MBEC are the sets `enabled` and `mbec`?

@@ -1,24 +1,19 @@
-// The machine that a first line describes (01, "The bench model"), and what a first line may say.
+// The parts of the machine that a first line describes (01, "The bench model"), and what a first line may say. The law
+// `fresh-machine` of proofs/FreshMachine.antt joins the parts to the machine.
 ghost use mathlib.Core.Path.{_≡_};
-ghost use Rattle.state.specs.Start.{startOf};
-ghost use Rattle.model.specs.Fresh.{admissible, freshContext, freshVp, freshLevel, fresh};
-use model::answer::Answer;
-use model::answer::Refusal;
-use model::machine::Context;
-use model::machine::Control;
+ghost use mathlib.Core.Bool.{true, false};
+ghost use mathlib.Core.List.{_∷_};
+ghost use lib.ListN.{replicate};
+ghost use Rattle.model.specs.Fresh.{admissible, freshVp, freshLevel};
+ghost use Rattle.processor.specs.Record.{vpOf};
+ghost use Rattle.state.specs.Parts.{setupOf};
+use crate::parts::Setup;
 use model::machine::FirstLine;
-use model::machine::Machine;
 use model::machine::PartitionLevel;
 use model::machine::Shape;
-use model::machine::VirtualProcessor;
 use model::quantity::Level;
 use partition::mask::valid_mask;
-
-// What a first line is answered, and the machine that it describes.
-pub struct Started {
-    pub answer: Answer,
-    pub machine: Machine,
-}
+use processor::record::Record;
 
 // Are all numbers of a first line in range, and is its host mask valid?
 pub fn admissible(f: FirstLine) -> bool
@@ -30,37 +25,29 @@ pub fn admissible(f: FirstLine) -> bool
     processors & (f.max_level <= 3) & pages & (f.dr6_shared <= 1) & mask
 }
 
-// A level of a fresh processor: all 0.
-fn fresh_context(on: bool) -> Context
-    ensures { λ r. ⌜ r ≡ freshContext on ⌝ }
+// What a first line says that stays the same in a run.
+pub fn setup_of(f: FirstLine) -> Setup
+    ensures { λ r. ⌜ r ≡ setupOf f ⌝ }
 {
-    let control = Control {
-        reason: 0,
-        from: Level(0),
-        rax: 0,
-        rcx: 0,
+    let shape = Shape {
+        max_level: Level(f.max_level),
+        dr6_shared: f.dr6_shared == 1,
     };
-    Context {
-        registers: [0; 13],
-        tpr: 0,
-        pending: [0; 4],
-        enabled: on,
-        secure: [0; 4],
-        control,
+    Setup {
+        processors: f.processors,
+        pages: f.pages,
+        host_mask: f.host_mask,
+        shape,
     }
 }
 
-// A fresh processor: level 0 alone is enabled, and active.
-fn fresh_vp() -> VirtualProcessor
-    ensures { λ r. ⌜ r ≡ freshVp ⌝ }
+// A fresh processor: all words 0, but word 1, the set of the enabled levels, which has level 0 alone.
+pub fn fresh_record() -> Record
+    ensures { λ r. ⌜ vpOf r ≡ freshVp ⌝ }
 {
-    let on = fresh_context(true);
-    let off = fresh_context(false);
-    VirtualProcessor {
-        active: Level(0),
-        shared: [0; 20],
-        contexts: [on, off, off, off],
-    }
+    let mut words = [0; 126];
+    words[1] = 1;
+    words
 }
 
 // What a fresh partition holds of a level: no MBEC; 62 is protections off and the default mask 15.
@@ -74,41 +61,18 @@ fn fresh_level(on: bool) -> PartitionLevel
     }
 }
 
-// The fresh machine: 15 is the mask with every right.
-pub fn fresh(f: FirstLine) -> Machine
-    ensures { λ r. ⌜ r ≡ fresh f .machine ⌝ }
+// The same of all levels: level 0 alone is enabled.
+pub fn fresh_levels() -> [PartitionLevel; 4]
+    ensures { λ r. ⌜ r ≡ freshLevel true ∷ replicate 3 (freshLevel false) ⌝ }
 {
-    let shape = Shape {
-        max_level: Level(f.max_level),
-        dr6_shared: f.dr6_shared == 1,
-    };
     let on = fresh_level(true);
     let off = fresh_level(false);
-    let vp = fresh_vp();
-    Machine {
-        processors: f.processors,
-        pages: f.pages,
-        host_mask: f.host_mask,
-        shape,
-        levels: [on, off, off, off],
-        masks: [15; 256],
-        vps: [vp; 4],
-    }
+    [on, off, off, off]
 }
 
-// The machine of a first line, or the refusal.
-pub fn start(f: FirstLine) -> Started
-    ensures { λ r. ⌜ r ≡ startOf f ⌝ }
+// The masks of all pages: 15 is the mask with every right.
+pub fn fresh_masks() -> [u64; 256]
+    ensures { λ r. ⌜ r ≡ replicate 256 15 ⌝ }
 {
-    let machine = fresh(f);
-    if admissible(f) {
-        return Started {
-            answer: Answer::Done(0),
-            machine,
-        };
-    }
-    Started {
-        answer: Answer::Refused(Refusal::Malformed),
-        machine,
-    }
+    [15; 256]
 }

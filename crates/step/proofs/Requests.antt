@@ -4,10 +4,11 @@ use mathlib.Core.Path.{_≡_, refl, sym, ap, _∙_}
 use mathlib.Core.Bool.{Bool, true, false, cond, _&&_, false≢true}
 use mathlib.Core.List.{List, _∷_}
 use mathlib.Core.Option.{some}
-use Prim.Native.Nat.{ℕ}
+use Prim.Native.Nat.{ℕ, _≤_, _<_}
 use lib.Dec.{leb, ltb}
 use lib.ListN.{getD}
-use borrow.Author.Tests.{lt-ltb}
+use native.Mathlib.Omega.{arith}
+use borrow.Author.Tests.{leb-false, lt-ltb}
 use Rattle.word.specs.Field.{bit}
 use Rattle.model.specs.declared.answer.Answer.{Answer}
 use Rattle.model.specs.declared.answer.Answer.the-variants.{Done, Refused, Intercept}
@@ -17,7 +18,6 @@ use Rattle.model.specs.declared.event.Event.the-variants.{Enpart, Envp, Call, R
 use Rattle.model.specs.declared.quantity.Access.{Access}
 use Rattle.model.proofs.Bools.{and-not, cond-same}
 use Rattle.model.proofs.Bounded.{any-cong}
-use Rattle.model.proofs.Formed.{is-processor}
 use Rattle.model.specs.Answers.{firstOf, _when_}
 use Rattle.model.specs.Bounded.{any}
 use Rattle.model.specs.Events.{onVp, madeOn, locked}
@@ -25,7 +25,6 @@ use Rattle.model.specs.Memory.{mbecOn}
 use Rattle.model.specs.State.{State, processors, isProcessor, shape, vp, active, pastVp, noVp, enabledOn, wordOf, secureOf, lockBit}
 use Rattle.model.specs.Step.{rule, maker, intercepted, nextFor, ruled, answered}
 use Rattle.model.specs.Updates.{setMask, setWord, putMasks}
-use Rattle.model.specs.WellFormed.{wellFormed}
 use Rattle.events.proofs.Chain.{answerOf, plain, first-settles, settles}
 use Rattle.events.proofs.PartitionJoins.{enpart-answer, protect-answer, config-answer, enpart-effect, config-effect, read-answer, write-answer, fetch-answer, flush-joined, pstat-joined, vstat-joined, caps-joined}
 use Rattle.processor_events.proofs.Joins.{call-joined, ret-joined, secure-joined, rreg-joined, wreg-joined, tpr-joined, ack-joined, envp-joined, int-joined}
@@ -105,13 +104,16 @@ twice false h = h
 abbrev pub named : State → Event → Bool
 named s e = let r = requestOf e in isProcessor s (r .maker .0) && isProcessor s (r .on .0)
 
-module _ (s : State) (w : wellFormed s ≡ true) where
+module _ (s : State) (most : processors s ≤ 4) where
   beyond : (v : ℕ) → isProcessor s v ≡ false → leb (processors s) v ≡ true
+  unfolding isProcessor
   beyond v h = go (leb (processors s) v) refl
     where
       go : (b : Bool) → leb (processors s) v ≡ b → b ≡ true
       go true e = refl
-      go false e = absurd (false≢true (sym h ∙ is-processor s w v e))
+      go false e =
+          let below : v < processors s = leb-false (processors s) v e in
+          absurd (false≢true (sym h ∙ rw (lt-ltb v (processors s) below, lt-ltb v 4 (omega (arith, below)))))
 
   malformed : (e : Event) → answerOf s e ≡ Refused Malformed → ruled s e ≡ answered (Refused Malformed) s e
   unfolding ruled

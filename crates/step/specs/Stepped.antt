@@ -1,52 +1,39 @@
--- A state as the caller hands it in, and what a step leaves of it, as the caller gets it. Assumes nothing.
+-- What a step leaves of a machine, as its parts give it. Assumes nothing.
+use mathlib.Core.Bool.{Bool, cond, _&&_}
 use mathlib.Core.List.{List}
 use Prim.Native.Nat.{ℕ}
+use lib.Dec.{leb}
 use lib.ListN.{getD, set}
 use Rattle.model.specs.declared.answer.Answer.{Answer}
 use Rattle.model.specs.declared.answer.Answer.the-variants.{Done, Refused, Intercept}
-use Rattle.model.specs.declared.machine.Machine.{Machine}
+use Rattle.model.specs.declared.answer.Refusal.the-variants.{Malformed}
+use Rattle.model.specs.declared.event.Event.{Event}
+use Rattle.model.specs.declared.machine.PartitionLevel.{PartitionLevel}
+use Rattle.model.specs.declared.machine.Shape.{Shape}
 use Rattle.model.specs.declared.machine.VirtualProcessor.{VirtualProcessor}
 use Rattle.model.specs.declared.quantity.Access.{Access}
 use Rattle.model.specs.Entry.{enter, byInterrupt}
-use Rattle.model.specs.State.{State, pastVp}
-use Rattle.model.specs.Step.{Outcome}
-use Rattle.model.specs.Updates.{withVps, withLevels, withMasks}
+use Rattle.model.specs.State.{State, processors, pastVp}
+use Rattle.model.specs.Step.{Outcome, ruled, answered}
 use Rattle.events.specs.declared.scope.Scope.{Scope}
-use Rattle.events.specs.declared.scope.VpStep.{VpStep}
-use Rattle.events.specs.Conditions.{ifDone}
-use Rattle.dispatch.specs.declared.request.LevelOperation.{LevelOperation}
-use Rattle.step.specs.declared.Stepped.{Stepped}
-use Rattle.dispatch.specs.Operation.{levelAnswer, levelRecords, levelMasks, pageIn}
+use Rattle.events.specs.Scope.{VpStep}
+use Rattle.dispatch.specs.declared.request.ProcessorOperation.{ProcessorOperation}
+use Rattle.dispatch.specs.Operation.{onProcessor, pageIn}
 
--- A machine, and the words that are lent with it.
-abbrev pub stateOf : Machine → List ℕ → State
-stateOf m ws = record { machine = m; words = ws }
+-- An operation on the record of processor w, among the records ps.
+abbrev pub operatedOn : Scope → List VirtualProcessor → ℕ → ℕ → ℕ → ProcessorOperation → VpStep
+operatedOn c ps v mode w x = onProcessor c (getD ps w pastVp) v mode w x
 
--- Of an outcome, the answer and the machine. The words are left where they were lent.
-abbrev pub stepped : Outcome → Stepped
-stepped o = record { answer = o .answer; machine = o .next .machine }
+-- The answer of an access by processor w.
+abbrev pub pageOn : Scope → List VirtualProcessor → List PartitionLevel → List ℕ → ℕ → List ℕ → ℕ → ℕ → ℕ → ℕ → Access → Answer
+pageOn c ps levels masks host words v mode w page access = pageIn c (getD ps w pastVp) levels masks host words v mode page access
 
--- The record at place w of a machine, and the machine with another one there.
-abbrev pub recordAt : Machine → ℕ → VirtualProcessor
-recordAt m w = getD (m .vps) w pastVp
+-- The records after an access by processor w: an intercept enters its receiver.
+abbrev pub enteredBy : Shape → List VirtualProcessor → ℕ → Answer → List VirtualProcessor
+enteredBy z ps w (Done x) = ps
+enteredBy z ps w (Refused r) = ps
+enteredBy z ps w (Intercept l) = set ps w (enter z (getD ps w pastVp) (l .0) byInterrupt)
 
-abbrev pub withRecord : Machine → ℕ → VirtualProcessor → Machine
-withRecord m w q = withVps m (set (m .vps) w q)
-
--- A step on the record of processor w, and a step on the levels: the machine changes where they are done.
-abbrev pub vpStepped : Machine → ℕ → VpStep → Stepped
-vpStepped m w u = record { answer = u .answer; machine = ifDone (u .answer) (withRecord m w (u .vp)) m }
-
-abbrev pub levelStepped : Machine → Scope → ℕ → ℕ → LevelOperation → Stepped
-levelStepped m c v mode x =
-    let a = levelAnswer c (m .levels) v mode x in
-    record { answer = a; machine = ifDone a (withMasks (withLevels m (levelRecords c (m .levels) x)) (levelMasks c (m .levels) x (m .masks))) m }
-
--- The answer of an access by processor w, and the machine after it.
-abbrev pub pageOn : Machine → Scope → List ℕ → ℕ → ℕ → ℕ → ℕ → Access → Answer
-pageOn m c ws v mode w page access = pageIn c (recordAt m w) (m .levels) (m .masks) (m .«host_mask») ws v mode page access
-
-abbrev pub interceptedOn : Machine → ℕ → Answer → Machine
-interceptedOn m w (Done x) = m
-interceptedOn m w (Refused r) = m
-interceptedOn m w (Intercept l) = withRecord m w (enter (m .shape) (recordAt m w) (l .0) byInterrupt)
+-- One event on a state of which it is known whether it is well formed. A machine has room for four processors.
+unfoldable pub stepIf : Bool → State → Event → Outcome
+stepIf formed s e = cond (formed && leb (processors s) 4) (ruled s e) (answered (Refused Malformed) s e)

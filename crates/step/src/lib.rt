@@ -1,13 +1,16 @@
-// One event on a whole machine (01, "Events").
+// One event on a whole machine (01, "Events"). The machine's masks and its processors' records are lent and changed in place, as the
+// words of the pages are: no event copies more than it changes. `machineOf` of crate `state` says which machine the parts are.
+ghost use mathlib.Core.Bool.{_&&_};
 ghost use mathlib.Core.Path.{_≡_};
-ghost use mathlib.Core.Bool.{true, _&&_};
-ghost use Prim.Native.Nat.{_<_};
+ghost use Prim.Native.Nat.{_≤_, _<_};
 ghost use lib.Dec.{ltb};
+ghost use lib.ListN.{getD, length, set};
 ghost use Rattle.model.specs.Step.{ruled as ruledOf, step as stepOf};
-ghost use Rattle.model.specs.WellFormed.{wellFormed};
 ghost use Rattle.events.specs.Conditions.{ifDone};
-ghost use Rattle.dispatch.specs.Operation.{onProcessor, wordsDone};
-ghost use Rattle.step.specs.Stepped.{stateOf, stepped, recordAt, vpStepped, levelStepped, interceptedOn, pageOn};
+ghost use Rattle.processor.specs.Record.{vpsOf};
+ghost use Rattle.state.specs.Parts.{machineOf, stateOf};
+ghost use Rattle.dispatch.specs.Operation.{wordsDone};
+ghost use Rattle.step.specs.Stepped.{operatedOn, enteredBy, pageOn, stepIf};
 use dispatch::operation::locked;
 use dispatch::operation::on_levels;
 use dispatch::operation::on_page;
@@ -15,7 +18,6 @@ use dispatch::operation::on_processor;
 use dispatch::operation::queried;
 use dispatch::operation::scope;
 use dispatch::operation::store_word;
-use dispatch::request::LevelOperation;
 use dispatch::request::Operation;
 use dispatch::request::ProcessorOperation;
 use dispatch::request::request_of;
@@ -26,16 +28,20 @@ use events::status_events::flush;
 use model::answer::Answer;
 use model::answer::Refusal;
 use model::event::Event;
-use model::machine::Machine;
+use model::machine::PartitionLevel;
+use model::machine::Shape;
 use model::quantity::Access;
 use model::quantity::Page;
 use model::quantity::Processor;
+use processor::record::Record;
+use processor::record::active_of;
 use state::formed::well_formed;
+use state::parts::Setup;
 
-// What an event is answered, and the machine after it.
-pub struct Stepped {
+// What an event is answered, and what the partition holds of the levels after it.
+pub struct Answered {
     pub answer: Answer,
-    pub machine: Machine,
+    pub levels: [PartitionLevel; 4],
 }
 
 // Is v one of so many processors?
@@ -45,53 +51,44 @@ fn is_processor(processors: u64, v: Processor) -> bool
     (v.0 < processors) & (v.0 < 4)
 }
 
-// An operation on the record of processor w, which is stored where the operation is done.
+// How many records are lent. A proof that stores into one asks that there are four.
+fn places(vps: &[Record; 4]) -> usize
+    ensures { λ _. ⌜ length (now (vps .entry)) ≡ 4 ⌝ }
+{
+    let all: &[Record] = vps;
+    all.len()
+}
+
+// An operation on the record of processor w.
 fn change_processor(
-    mut m: Machine,
     c: Scope,
+    vps: &mut [Record; 4],
     v: Processor,
     mode: u64,
     w: Processor,
     x: ProcessorOperation,
-) -> Stepped
+) -> Answer
     requires { ⌜ w .0 < 4 ⌝ }
-    ensures { λ r. ⌜ r ≡ vpStepped m (w .0) (onProcessor c (recordAt m (w .0)) (v .0) mode (w .0) x) ⌝ }
+    ensures answer { λ r. ⌜ r ≡ operatedOn c (vpsOf (now (vps .entry))) (v .0) mode (w .0) x .answer ⌝ }
+    ensures vps { λ _. ⌜ (let ps = vpsOf (now (vps .entry)) in vpsOf (now (vps .exit)) ≡ set ps (w .0) (operatedOn c ps (v .0) mode (w .0) x .vp)) ⌝ }
 {
+    places(vps);
     let j = w.0 as usize;
-    let after = on_processor(c, m.vps[j], v, mode, w, x);
-    let answer = after.answer;
-    let done = is_done(answer);
-    if done {
-        let q = after.vp;
-        m.vps[j] = q;
-    }
-    Stepped { answer, machine: m }
+    on_processor(c, &mut vps[j], v, mode, w, x)
 }
 
-// An operation on what the partition holds of the levels.
-fn change_levels(mut m: Machine, c: Scope, v: Processor, mode: u64, x: LevelOperation) -> Stepped
-    ensures { λ r. ⌜ r ≡ levelStepped m c (v .0) mode x ⌝ }
-{
-    let levelled = on_levels(c, m.levels, &mut m.masks, v, mode, x);
-    let answer = levelled.answer;
-    let levels = levelled.levels;
-    m.levels = levels;
-    Stepped { answer, machine: m }
-}
-
-// An intercept enters its receiver on processor w, reason 2; any other answer leaves the machine.
-fn intercepted(mut m: Machine, w: Processor, answer: Answer) -> Machine
+// An intercept enters its receiver on processor w, reason 2; any other answer leaves the records.
+fn intercept(z: Shape, vps: &mut [Record; 4], w: Processor, answer: Answer)
     requires { ⌜ w .0 < 4 ⌝ }
-    ensures { λ r. ⌜ r ≡ interceptedOn m (w .0) answer ⌝ }
+    ensures { λ _. ⌜ vpsOf (now (vps .exit)) ≡ enteredBy z (vpsOf (now (vps .entry))) (w .0) answer ⌝ }
 {
+    places(vps);
     match answer {
-        Answer::Done(_) => m,
-        Answer::Refused(_) => m,
+        Answer::Done(_) => {}
+        Answer::Refused(_) => {}
         Answer::Intercept(l) => {
             let j = w.0 as usize;
-            let q = enter(m.shape, m.vps[j], l.0, 2);
-            m.vps[j] = q;
-            m
+            enter(z, &mut vps[j], l.0, 2);
         }
     }
 }
@@ -107,27 +104,31 @@ fn store_done(words: &mut [u64], answer: Answer, page: Page, access: Access, val
 
 // An access by processor w: a write that is done stores its word, and an intercept enters its receiver.
 fn access_page(
-    m: Machine,
-    words: &mut [u64],
     c: Scope,
+    levels: [PartitionLevel; 4],
+    masks: &[u64; 256],
+    host_mask: u64,
+    vps: &mut [Record; 4],
+    words: &mut [u64],
     v: Processor,
     mode: u64,
     w: Processor,
     page: Page,
     access: Access,
     value: u64,
-) -> Stepped
+) -> Answer
     requires { ⌜ w .0 < 4 ⌝ }
-    ensures machine { λ r. ⌜ (let a = pageOn m c (now (words .entry)) (v .0) mode (w .0) (page .0) access in r ≡ record { answer = a; machine = interceptedOn m (w .0) a }) ⌝ }
-    ensures words { λ _. ⌜ now (words .exit) ≡ ifDone (pageOn m c (now (words .entry)) (v .0) mode (w .0) (page .0) access) (wordsDone (now (words .entry)) (page .0) access value) (now (words .entry)) ⌝ }
+    ensures answer { λ r. ⌜ r ≡ pageOn c (vpsOf (now (vps .entry))) levels (now (masks .entry)) «host_mask» (now (words .entry)) (v .0) mode (w .0) (page .0) access ⌝ }
+    ensures vps { λ r. ⌜ vpsOf (now (vps .exit)) ≡ enteredBy (c .shape) (vpsOf (now (vps .entry))) (w .0) r ⌝ }
+    ensures words { λ r. ⌜ now (words .exit) ≡ ifDone r (wordsDone (now (words .entry)) (page .0) access value) (now (words .entry)) ⌝ }
 {
     let j = w.0 as usize;
     let answer = on_page(
         c,
-        m.vps[j],
-        m.levels,
-        &m.masks,
-        m.host_mask,
+        &vps[j],
+        levels,
+        masks,
+        host_mask,
         words,
         v,
         mode,
@@ -135,65 +136,117 @@ fn access_page(
         access,
     );
     store_done(words, answer, page, access, value);
-    Stepped {
-        answer,
-        machine: intercepted(m, w, answer),
-    }
+    intercept(c.shape, vps, w, answer);
+    answer
 }
 
-// The rule of an event on a well-formed machine. The processors that the event names are looked at first: without them it is
-// malformed. Then at most one record changes.
-fn ruled(m: Machine, words: &mut [u64], e: Event) -> Stepped
-    requires { ⌜ wellFormed (stateOf m (now words)) ≡ true ⌝ }
-    ensures machine { λ r. ⌜ r ≡ stepped (ruledOf (stateOf m (now (words .entry))) e) ⌝ }
-    ensures words { λ _. ⌜ now (words .exit) ≡ ruledOf (stateOf m (now (words .entry))) e .next .words ⌝ }
+// The rule of an event. The processors that the event names are looked at first: without them it is malformed. Then at most one
+// record changes.
+fn ruled(
+    c: Setup,
+    levels: [PartitionLevel; 4],
+    masks: &mut [u64; 256],
+    vps: &mut [Record; 4],
+    words: &mut [u64],
+    e: Event,
+) -> Answered
+    requires { ⌜ c .processors ≤ 4 ⌝ }
+    ensures { λ r. ⌜ record { answer = r .answer; next = stateOf (machineOf c (r .levels) (now (masks .exit)) (now (vps .exit))) (now (words .exit)) } ≡ ruledOf (stateOf (machineOf c levels (now (masks .entry)) (now (vps .entry))) (now (words .entry))) e ⌝ }
 {
     let request = request_of(e);
     let v = request.maker;
     let w = request.on;
     let mode = request.mode;
     let operation = request.operation;
-    let named = is_processor(m.processors, v) & is_processor(m.processors, w);
+    let named = is_processor(c.processors, v) & is_processor(c.processors, w);
     if !named {
-        return Stepped {
-            answer: Answer::Refused(Refusal::Malformed),
-            machine: m,
-        };
+        let answer = Answer::Refused(Refusal::Malformed);
+        return Answered { answer, levels };
     }
     let i = v.0 as usize;
-    let actor = m.vps[i].active.0;
-    let c = scope(m.shape, m.processors, m.pages, m.levels, actor);
+    let j = w.0 as usize;
+    let actor = active_of(&vps[i]);
+    let given = scope(c.shape, c.processors, c.pages, levels, actor);
     match operation {
-        Operation::OnProcessor(x) => change_processor(m, c, v, mode, w, x),
-        Operation::OnLevels(x) => change_levels(m, c, v, mode, x),
+        Operation::OnProcessor(x) => {
+            let answer = change_processor(given, vps, v, mode, w, x);
+            Answered { answer, levels }
+        }
+        Operation::OnLevels(x) => {
+            let after = on_levels(given, levels, masks, v, mode, x);
+            let answer = after.answer;
+            let changed = after.levels;
+            Answered {
+                answer,
+                levels: changed,
+            }
+        }
         Operation::OnPage {
             page,
             access,
             value,
-        } => access_page(m, words, c, v, mode, w, page, access, value),
+        } => {
+            let answer = access_page(
+                given,
+                levels,
+                masks,
+                c.host_mask,
+                vps,
+                words,
+                v,
+                mode,
+                w,
+                page,
+                access,
+                value,
+            );
+            Answered { answer, levels }
+        }
         Operation::Flush => {
-            let held = locked(m.shape, m.processors, m.vps, actor);
-            let answer = flush(c, held, v, mode);
-            Stepped { answer, machine: m }
+            let held = locked(c.shape, c.processors, vps, actor);
+            let answer = flush(given, held, v, mode);
+            Answered { answer, levels }
         }
         Operation::OnNothing(x) => {
-            let j = w.0 as usize;
-            let answer = queried(c, m.vps[j], v, mode, x);
-            Stepped { answer, machine: m }
+            let answer = queried(given, &vps[j], v, mode, x);
+            Answered { answer, levels }
         }
     }
 }
 
-// One event on a machine with the words of its pages. A state that is not well formed gets answer 1, and nothing changes.
-pub fn step(m: Machine, words: &mut [u64], e: Event) -> Stepped
-    ensures machine { λ r. ⌜ r ≡ stepped (stepOf (stateOf m (now (words .entry))) e) ⌝ }
-    ensures words { λ _. ⌜ now (words .exit) ≡ stepOf (stateOf m (now (words .entry))) e .next .words ⌝ }
+// One event on a state of which it is known whether it is well formed. One that is not, and one with more than four processors, gets
+// answer 1, and nothing changes. A run that begins well formed stays so: whoever makes one asks once.
+pub fn step_if(
+    formed: bool,
+    c: Setup,
+    levels: [PartitionLevel; 4],
+    masks: &mut [u64; 256],
+    vps: &mut [Record; 4],
+    words: &mut [u64],
+    e: Event,
+) -> Answered
+    ensures { λ r. ⌜ record { answer = r .answer; next = stateOf (machineOf c (r .levels) (now (masks .exit)) (now (vps .exit))) (now (words .exit)) } ≡ stepIf formed (stateOf (machineOf c levels (now (masks .entry)) (now (vps .entry))) (now (words .entry))) e ⌝ }
 {
-    if well_formed(m, words) {
-        return ruled(m, words, e);
+    if formed {
+        if c.processors <= 4 {
+            return ruled(c, levels, masks, vps, words, e);
+        }
     }
-    Stepped {
-        answer: Answer::Refused(Refusal::Malformed),
-        machine: m,
-    }
+    let answer = Answer::Refused(Refusal::Malformed);
+    Answered { answer, levels }
+}
+
+// One event on a machine with the words of its pages. A state that is not well formed gets answer 1, and nothing changes.
+pub fn step(
+    c: Setup,
+    levels: [PartitionLevel; 4],
+    masks: &mut [u64; 256],
+    vps: &mut [Record; 4],
+    words: &mut [u64],
+    e: Event,
+) -> Answered
+    ensures { λ r. ⌜ record { answer = r .answer; next = stateOf (machineOf c (r .levels) (now (masks .exit)) (now (vps .exit))) (now (words .exit)) } ≡ stepOf (stateOf (machineOf c levels (now (masks .entry)) (now (vps .entry))) (now (words .entry))) e ⌝ }
+{
+    let formed = well_formed(c, levels, masks, vps, words);
+    step_if(formed, c, levels, masks, vps, words, e)
 }

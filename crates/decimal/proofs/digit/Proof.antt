@@ -1,22 +1,19 @@
--- `decimal::digit` meets its contract: each return is one outcome of the two tests.
+-- `decimal::digit` meets its contract: its test is that of `digitOf`.
 -- Assumes nothing.
-use borrow.Author.Needs.{needs}
-use borrow.Author.Tests.{le-leb, lt-leb}
-use native.Mathlib.Omega.{arith}
+use borrow.Author.Tests.{leb-true}
+use lib.Dec.{leb}
+use Rattle.decimal.proofs.Reading.{both}
 use Rattle.decimal.proofs.digit.Statement.{statement}
 use Rattle.decimal.proofs.digit.Tie as tie
 
+sub-t6 : tie.Need-sub-t6
+sub-t6 c = let b = c .before .args .byte in leb-true 48 b (both (leb 48 b) (leb b 57) (c .if1 .taken) .0)
+
 returns : tie.Need-returns
-returns c = rw (lt-leb 48 (c .before .args .byte) (omega arith))
+returns c = rw (c .if1 .taken)
 
 returns-2 : tie.Need-returns-2
-returns-2 c = let b = c .before .before .args .byte in rw (le-leb 48 b (omega arith), lt-leb b 57 (omega arith))
-
-cast-t4 : tie.Need-cast-t4
-cast-t4 c = search needs
-
-returns-3 : tie.Need-returns-3
-returns-3 c = let b = c .before .before .args .byte in rw (le-leb 48 b (omega arith), le-leb b 57 (omega arith))
+returns-2 c = rw (c .if1 .left)
 
 pub digit-spec : {M : Type 1} → statement M
-digit-spec = tie.close (tie.spec returns returns-2 cast-t4 returns-3)
+digit-spec = tie.close (tie.spec sub-t6 returns returns-2)

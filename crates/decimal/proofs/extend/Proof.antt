@@ -1,8 +1,9 @@
 -- `decimal::extend` meets its contract: each return is a law of `extended`, whose facts follow from the tests.
 -- Assumes nothing.
+use mathlib.Core.Path.{sym, _∙_}
 use borrow.Author.Needs.{needs}
 use native.Mathlib.Omega.{arith}
-use Rattle.decimal.proofs.Reading.{extended-in, extended-out, extended-zero}
+use Rattle.decimal.proofs.Reading.{digit-byte, extended-in, extended-out, extended-zero}
 use Rattle.decimal.proofs.extend.Statement.{statement}
 use Rattle.decimal.proofs.extend.Tie as tie
 
@@ -24,17 +25,21 @@ returns-2 c =
     let a = found .before .before .before .args in
     extended-zero (a .value) (a .byte) _ (found .before .before .digit .ensures) (found .last .given .1) (omega arith)
 
+mul-t7 : tie.Need-mul-t7
+mul-t7 c = search needs
+
+add-t8 : tie.Need-add-t8
+add-t8 c =
+    let found = c .before .before .before in
+    let a = found .before .before .before .args in
+    omega (arith, digit-byte (a .byte) (found .last .given .0 .0) (sym (found .before .before .digit .ensures) ∙ found .last .given .1))
+
 returns-3 : tie.Need-returns-3
 returns-3 c =
     let found = c .before .before .before in
     let a = found .before .before .before .args in
-    extended-out (a .value) (a .byte) _ (found .before .before .digit .ensures) (found .last .given .1) (omega arith) (omega arith)
-
-mul-tens : tie.Need-mul-tens
-mul-tens c = search needs
-
-sub-if3 : tie.Need-sub-if3
-sub-if3 c = search needs
+    extended-in (a .value) (a .byte) _ (found .before .before .digit .ensures) (found .last .given .1) (omega arith)
+    (omega (arith, digit-byte (a .byte) (found .last .given .0 .0) (sym (found .before .before .digit .ensures) ∙ found .last .given .1)))
 
 returns-4 : tie.Need-returns-4
 returns-4 c =
@@ -42,12 +47,21 @@ returns-4 c =
     let a = found .before .before .before .args in
     extended-out (a .value) (a .byte) _ (found .before .before .digit .ensures) (found .last .given .1) (omega arith) (omega arith)
 
-add-t7 : tie.Need-add-t7
-add-t7 c = search needs
-
 returns-5 : tie.Need-returns-5
 returns-5 c =
-    let found = c .before .before .before .before in
+    let found = c .before .before .before .before .before in
+    let a = found .before .before .before .args in
+    extended-out (a .value) (a .byte) _ (found .before .before .digit .ensures) (found .last .given .1) (omega arith) (omega arith)
+
+mul-t6 : tie.Need-mul-t6
+mul-t6 c = search needs
+
+add-t9 : tie.Need-add-t9
+add-t9 c = search needs
+
+returns-6 : tie.Need-returns-6
+returns-6 c =
+    let found = c .before .before .before .before .before in
     let a = found .before .before .before .args in
     extended-in (a .value) (a .byte) _ (found .before .before .digit .ensures) (found .last .given .1) (omega arith) (omega arith)
 
@@ -60,9 +74,11 @@ extend-spec =
     enum-told
     returns
     returns-2
+    mul-t7
+    add-t8
     returns-3
-    mul-tens
-    sub-if3
     returns-4
-    add-t7
-    returns-5)
+    returns-5
+    mul-t6
+    add-t9
+    returns-6)

@@ -1,85 +1,58 @@
--- `decimal::write` meets its contract. The loop's invariant is `Writing`, and the measure is what is left of the number.
+-- `decimal::write` meets its contract: a number below 10 has one digit.
 -- Assumes nothing.
-use mathlib.Core.Path.{refl, sym, _∙_}
-use mathlib.Core.List.{[]}
+use mathlib.Core.Path.{sym}
 use borrow.Author.Needs.{needs}
 use native.Mathlib.Omega.{arith}
-use lib.ListN.{length-set}
-use Rattle.decimal.specs.Write.{decimal}
+use Rattle.decimal.proofs.Digits.{only-digit}
 use Rattle.decimal.proofs.Room.{after-no-room, after-room, with-no-room, with-room}
-use Rattle.decimal.proofs.Writing.{Writing, digit-put, place-left, text-put}
 use Rattle.decimal.proofs.write.Statement.{statement}
 use Rattle.decimal.proofs.write.Tie as tie
 
-abbrev Inv-loop : tie.InvT-loop
-Inv-loop out₀ at value count end i₀ rest₀ out i rest = Writing out₀ at value out i rest
+write-long-requires : tie.Need-write-long-requires
+write-long-requires c κs = search needs
 
-abbrev μ-loop : tie.MeasureT-loop
-μ-loop out₀ at value count end i₀ rest₀ out i rest = rest
+same-length : tie.Need-same-length
+same-length c = search needs
 
-digit-count-requires : tie.Need-digit-count-requires Inv-loop μ-loop
-digit-count-requires c κs = search needs
+returns : tie.Need-returns
+returns c = search needs
 
-returns : tie.Need-returns Inv-loop μ-loop
-returns c = (sym (after-no-room _ _ _ (omega arith)), sym (with-no-room _ _ _ (omega arith)))
+returns-2 : tie.Need-returns-2
+returns-2 c =
+    let a = c .before .before .before .args in
+    rw (only-digit (a .value) (omega arith)) (sym (after-no-room _ _ _ (omega arith)), sym (with-no-room _ _ _ (omega arith)))
 
-sub-if2 : tie.Need-sub-if2 Inv-loop μ-loop
-sub-if2 c = search needs
-
-returns-2 : tie.Need-returns-2 Inv-loop μ-loop
-returns-2 c = (sym (after-no-room _ _ _ (omega arith)), sym (with-no-room _ _ _ (omega arith)))
-
-add-end : tie.Need-add-end Inv-loop μ-loop
-add-end c = search needs
-
-loop-holds : tie.Need-loop-holds Inv-loop μ-loop
-loop-holds c = record { text = []; stored = refl; place = omega arith; whole = refl; fits = omega arith }
-
-sub-i : tie.Need-sub-i Inv-loop μ-loop
-sub-i c = omega (arith, place-left (c .loop .inv))
-
-cast-out : tie.Need-cast-out Inv-loop μ-loop
+cast-out : tie.Need-cast-out
 cast-out c = search needs
 
-add-out : tie.Need-add-out Inv-loop μ-loop
+add-out : tie.Need-add-out
 add-out c = search needs
 
-slice-write-out : tie.Need-slice-write-out Inv-loop μ-loop
-slice-write-out c = omega (arith, place-left (c .loop .inv))
+slice-write-out : tie.Need-slice-write-out
+slice-write-out c = search needs
 
-same-length : tie.Need-same-length Inv-loop μ-loop
-same-length c = simp length-set (place-left (c .before .loop .inv) .2)
+add-result : tie.Need-add-result
+add-result c = search needs
 
-returns-3 : tie.Need-returns-3 Inv-loop μ-loop
+same-length-2 : tie.Need-same-length-2
+same-length-2 c = search needs
+
+returns-3 : tie.Need-returns-3
 returns-3 c =
-    let a = c .before .before .before .before .before .before .args in (
-      omega (arith, after-room (a .out .now) (a .at) (decimal (a .value)) (omega arith)),
-      text-put (c .before .loop .inv) (c .if3 .taken) ∙ sym (with-room _ _ _ (omega arith)),
-    )
-
-loop-less : tie.Need-loop-less Inv-loop μ-loop
-loop-less c = search needs
-
-loop-again : tie.Need-loop-again Inv-loop μ-loop
-loop-again c = digit-put (c .before .loop .inv) (c .if3 .left)
+    let a = c .before .before .before .args in
+    rw (only-digit (a .value) (omega arith)) (sym (after-room _ _ _ (omega arith)), sym (with-room _ _ _ (omega arith)))
 
 pub write-spec : {M : Type 1} → statement M
 write-spec =
     tie.close
     (tie.spec
-    Inv-loop
-    μ-loop
-    digit-count-requires
+    write-long-requires
+    same-length
     returns
-    sub-if2
     returns-2
-    add-end
-    loop-holds
-    sub-i
     cast-out
     add-out
     slice-write-out
-    same-length
-    returns-3
-    loop-less
-    loop-again)
+    add-result
+    same-length-2
+    returns-3)

@@ -1,11 +1,17 @@
--- `script::parse` meets its contract: a line is malformed where it is too long or its row is, and says what its word and its
--- row say. Assumes nothing.
-use mathlib.Core.Path.{refl, _∙_}
+-- `script::parse` meets its contract: a line says what the word that it begins with and the row of its numbers say.
+-- Assumes nothing.
+use mathlib.Core.Path.{_≡_, refl, sym, ap, _∙_}
 use borrow.Author.Needs.{needs}
-use borrow.Author.Tests.{not-true, not-false}
+use borrow.Author.Tests.{not-false, not-true}
+use native.Mathlib.Omega.{arith}
+use lib.ListN.{length}
 use Rattle.script.specs.Events.{events, lineEvent}
+use Rattle.script.specs.Lines.{numbersIn}
+use Rattle.script.specs.Rows.{Row, fieldsAfter}
+use Rattle.script.specs.Words.{formOf, words}
 use Rattle.script.specs.declared.Parsed.the-variants.{Event, Malformed}
-use Rattle.script.proofs.Saying.{end-length, row-malformed, row-said, too-long}
+use Rattle.script.proofs.Naming.{Found, formSaid, found, line-said, named-said, namedSaid, too-long}
+use Rattle.script.proofs.Saying.{row-malformed, row-said}
 use Rattle.script.proofs.parse.Statement.{statement}
 use Rattle.script.proofs.parse.Tie as tie
 
@@ -13,42 +19,82 @@ returns : tie.Need-returns
 unfolding lineEvent
 returns c = too-long Event Malformed events _ (c .if1 .taken)
 
-field-end-requires : tie.Need-field-end-requires
-field-end-requires c κs = search needs
+word-of-requires : tie.Need-word-of-requires
+word-of-requires c κs = search needs
 
-numbers-requires : tie.Need-numbers-requires
-numbers-requires c κs = search needs
+enum-known-word : tie.Need-enum-known-word
+enum-known-word c = search needs
+
+enum-told : tie.Need-enum-told
+enum-told c = search needs
+
+-- What a line of at most 256 bytes says, by the word that it begins with.
+by-word : (c : tie.After-word-of) → lineEvent (c .before .before .before .args .line .now) ≡ namedSaid (c .word-of .result) (c .before .before .before .args .line .now)
+unfolding lineEvent
+by-word c =
+    let line = c .before .before .before .args .line .now in
+    line-said Event Malformed events line refl (c .before .if1 .left) ∙ named-said words line ∙ ap (λ n. namedSaid n line) (sym (c .word-of .ensures))
 
 returns-2 : tie.Need-returns-2
-unfolding lineEvent
 returns-2 c =
-    let found = c .before .before .before in
-    row-malformed Event Malformed events _ _ _ (found .before .if1 .left) (found .field-end .ensures) (c .before .before .numbers .ensures) refl (not-true _ (c .if2 .taken))
+    let w = c .before .before in
+    let line = w .before .before .before .args .line .now in
+    sym (by-word w ∙ ap (λ n. namedSaid n line) (c .enum-told .given .1))
 
-slice-aggregate-event : tie.Need-slice-aggregate-event
-slice-aggregate-event c =
-    let found = c .before .before .before .before .before in
-    end-length Event Malformed events _ _ _ (found .before .if1 .left) (found .field-end .ensures) (c .before .before .before .before .numbers .ensures)
+-- The word that was found, and the row of its numbers.
+word-found : (c : tie.After-word)
+    → let w = c .before .before in
+    Found (w .before .before .before .args .line .now) (c .word .given .0 .0) (c .word .given .0 .1 .0) (c .word .given .0 .1 .1 .0)
+word-found c = let w = c .before .before in found words _ refl (sym (w .word-of .ensures) ∙ c .word .given .1)
+
+numbers-requires : tie.Need-numbers-requires
+numbers-requires c κs =
+    let f = word-found (c .before .before) in
+    (omega (arith, f .ends, f .longer), (omega (arith, f .counts, f .few), refl))
+
+-- What the line says, by that word, and the row that its numbers were read into.
+said : (c : tie.After-numbers)
+    → let known = c .before .before .before in
+    let line = known .before .before .before .before .before .args .line .now in
+    let form = formOf (known .word .given .0 .0) in
+    let numbers = numbersIn (fieldsAfter line (length (form .word))) in
+    Row (form .count) numbers (c .numbers .result) (c .numbers .last .1 .1 .1 .0) × (formSaid Event Malformed form numbers ≡ lineEvent line)
+said c =
+    let known = c .before .before .before in
+    let line = known .before .before .before .before .before .args .line .now in
+    let f = word-found known in (
+      rw (f .ends, f .counts) at (c .numbers .ensures),
+      sym (by-word (known .before .before) ∙ ap (λ n. namedSaid n line) (known .word .given .1)),
+    )
+
+returns-3 : tie.Need-returns-3
+returns-3 c =
+    let row = c .before in
+    let known = row .before .before .before in
+    let (read, says) = said row in
+    row-malformed Event Malformed (formOf (known .word .given .0 .0)) (word-found known .few) (numbersIn _) read (not-true _ (c .if2 .taken)) ∙ says
 
 event-requires : tie.Need-event-requires
 event-requires c κs = search needs
 
-returns-3 : tie.Need-returns-3
-unfolding lineEvent
-returns-3 c =
-    let found = c .before .before .before .before .before .before .before in
-    c .event .ensures
-    ∙ row-said Event Malformed events _ _ _ (found .before .if1 .left) (found .field-end .ensures) (c .before .before .before .before .before .before .numbers .ensures)
-    (not-false _ (c .before .before .before .before .if2 .left))
+returns-4 : tie.Need-returns-4
+returns-4 c =
+    let row = c .before .before .before in
+    let known = row .before .before .before in
+    let (read, says) = said row in
+    ap Event (c .event .ensures)
+    ∙ row-said Event Malformed (formOf (known .word .given .0 .0)) (word-found known .few) (numbersIn _) read (not-false _ (c .before .before .if2 .left)) ∙ says
 
 pub parse-spec : {M : Type 1} → statement M
 parse-spec =
     tie.close
     (tie.spec
     returns
-    field-end-requires
-    numbers-requires
+    word-of-requires
+    enum-known-word
+    enum-told
     returns-2
-    slice-aggregate-event
+    numbers-requires
+    returns-3
     event-requires
-    returns-3)
+    returns-4)

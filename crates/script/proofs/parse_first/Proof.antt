@@ -1,14 +1,16 @@
--- `script::parse_first` meets its contract: a line is malformed where it is too long, its row is, or it has another word or
--- number of fields than `vsm`. Assumes nothing.
+-- `script::parse_first` meets its contract: a line that begins with `vsm` says what the row of its numbers says.
+-- Assumes nothing.
 use mathlib.Core.List.{[], _∷_}
-use mathlib.Core.Path.{_≡_, refl}
+use mathlib.Core.Path.{_≡_, refl, sym, _∙_}
 use borrow.Author.Needs.{needs}
-use borrow.Author.Tests.{eq-eqb, ne-eqb, not-false, not-true}
-use lib.ListN.{take}
+use borrow.Author.Tests.{not-false, not-true}
+use native.Mathlib.Omega.{arith}
 use Rattle.script.specs.First.{lineFirst, vsm}
-use Rattle.script.specs.Lines.{among}
+use Rattle.script.specs.Lines.{numbersIn}
+use Rattle.script.specs.Rows.{fieldsAfter}
 use Rattle.script.specs.declared.Start.the-variants.{First, Malformed}
-use Rattle.script.proofs.Saying.{end-length, row-malformed, row-said, too-long}
+use Rattle.script.proofs.Naming.{begun-longer, formAmong, formSaid, line-said, too-long}
+use Rattle.script.proofs.Saying.{row-malformed, row-said}
 use Rattle.script.proofs.parse_first.Statement.{statement}
 use Rattle.script.proofs.parse_first.Tie as tie
 
@@ -16,93 +18,69 @@ returns : tie.Need-returns
 unfolding lineFirst
 returns c = too-long First Malformed (vsm ∷ []) _ (c .if1 .taken)
 
-field-end-requires : tie.Need-field-end-requires
-field-end-requires c κs = search needs
+slice-aggregate-begins : tie.Need-slice-aggregate-begins
+slice-aggregate-begins c = search needs
 
-numbers-requires : tie.Need-numbers-requires
-numbers-requires c κs = search needs
+begins-requires : tie.Need-begins-requires
+begins-requires c κs = search needs
 
 returns-2 : tie.Need-returns-2
-unfolding lineFirst
+unfolding formAmong lineFirst
 returns-2 c =
-    let found = c .before .before in
-    row-malformed First Malformed (vsm ∷ []) _ _ _ (found .before .if1 .left) (found .field-end .ensures) (c .before .numbers .ensures) refl
-    (not-true _ (c .if2 .taken))
+    let b = c .before in
+    rw (sym (b .begins .ensures) ∙ not-true _ (c .if2 .taken)) at (sym (line-said First Malformed (vsm ∷ []) (b .before .before .before .before .args .line .now) refl (b .before .before .if1 .left)))
 
-slice-aggregate-equal : tie.Need-slice-aggregate-equal
-slice-aggregate-equal c =
-    let found = c .before .before .before in
-    end-length First Malformed (vsm ∷ []) _ _ _ (found .before .if1 .left) (found .field-end .ensures) (c .before .before .numbers .ensures)
+numbers-requires : tie.Need-numbers-requires
+numbers-requires c κs =
+    let found = c .before in
+    let b = found .before in
+    (omega (arith, begun-longer _ _ (sym (b .begins .ensures) ∙ not-false _ (found .if2 .left))), (omega arith, refl))
 
-slice-aggregate-equal-2 : tie.Need-slice-aggregate-equal-2
-slice-aggregate-equal-2 c = search needs
-
-equal-requires : tie.Need-equal-requires
-equal-requires c κs = search needs
-
--- What the line says, by its row.
-said-of : (c : tie.Else2)
-    → let found = c .before .before in
-    let line = found .before .before .before .args .line .now in
-    let row = c .before .numbers .result in
-    among First Malformed (vsm ∷ []) (take (found .field-end .result) line) (row .count) (row .values) ≡ lineFirst line
-unfolding lineFirst
-said-of c =
-    let found = c .before .before in
-    row-said First Malformed (vsm ∷ []) _ _ _ (found .before .if1 .left) (found .field-end .ensures) (c .before .numbers .ensures) (not-false _ (c .if2 .left))
+-- What a line that begins with `vsm` says.
+says : (c : tie.Else2)
+    → let line = c .before .before .before .before .before .args .line .now in
+    formSaid First Malformed vsm (numbersIn (fieldsAfter line 3)) ≡ lineFirst line
+unfolding formAmong lineFirst
+says c =
+    let b = c .before in
+    rw (sym (b .begins .ensures) ∙ not-false _ (c .if2 .left)) at (sym (line-said First Malformed (vsm ∷ []) (b .before .before .before .before .args .line .now) refl (b .before .before .if1 .left)))
 
 returns-3 : tie.Need-returns-3
-unfolding lineFirst among
 returns-3 c =
-    let read = c .before .before .before .before in
-    rw (← (c .before .equal .ensures), not-true (c .before .equal .result) (c .if3 .taken)) at (said-of read)
+    row-malformed First Malformed vsm (omega arith) (numbersIn _) (c .before .numbers .ensures) (not-true _ (c .if3 .taken)) ∙ says (c .before .before .before)
+
+array-read-t12 : tie.Need-array-read-t12
+array-read-t12 c = search needs
+
+array-read-t15 : tie.Need-array-read-t15
+array-read-t15 c = search needs
+
+array-read-t18 : tie.Need-array-read-t18
+array-read-t18 c = search needs
+
+array-read-t21 : tie.Need-array-read-t21
+array-read-t21 c = search needs
+
+array-read-t24 : tie.Need-array-read-t24
+array-read-t24 c = search needs
 
 returns-4 : tie.Need-returns-4
-unfolding lineFirst among
 returns-4 c =
-    let named = c .before in
-    let read = named .before .before .before .before in
-    rw (← (named .before .equal .ensures), not-false (named .before .equal .result) (named .if3 .left), ne-eqb (read .before .numbers .result .count) 5 (c .if4 .taken)) at (said-of read)
-
-element-copy-out-t15 : tie.Need-element-copy-out-t15
-element-copy-out-t15 c = search needs
-
-element-copy-out-t18 : tie.Need-element-copy-out-t18
-element-copy-out-t18 c = search needs
-
-element-copy-out-t21 : tie.Need-element-copy-out-t21
-element-copy-out-t21 c = search needs
-
-element-copy-out-t24 : tie.Need-element-copy-out-t24
-element-copy-out-t24 c = search needs
-
-element-copy-out-t27 : tie.Need-element-copy-out-t27
-element-copy-out-t27 c = search needs
-
-returns-5 : tie.Need-returns-5
-unfolding lineFirst among
-returns-5 c =
-    let counted = c .before .before .before .before .before in
-    let named = counted .before in
-    let read = named .before .before .before .before in
-    rw (← (named .before .equal .ensures), not-false (named .before .equal .result) (named .if3 .left), eq-eqb (read .before .numbers .result .count) 5 (counted .if4 .left)) at (said-of read)
+    row-said First Malformed vsm (omega arith) (numbersIn _) (c .before .numbers .ensures) (not-false _ (c .if3 .left)) ∙ says (c .before .before .before)
 
 pub parse-first-spec : {M : Type 1} → statement M
 parse-first-spec =
     tie.close
     (tie.spec
     returns
-    field-end-requires
-    numbers-requires
+    slice-aggregate-begins
+    begins-requires
     returns-2
-    slice-aggregate-equal
-    slice-aggregate-equal-2
-    equal-requires
+    numbers-requires
     returns-3
-    returns-4
-    element-copy-out-t15
-    element-copy-out-t18
-    element-copy-out-t21
-    element-copy-out-t24
-    element-copy-out-t27
-    returns-5)
+    array-read-t12
+    array-read-t15
+    array-read-t18
+    array-read-t21
+    array-read-t24
+    returns-4)

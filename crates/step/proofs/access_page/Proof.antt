@@ -1,12 +1,14 @@
 -- `access_page` meets its contract: the answer, and what it changes. Assumes nothing.
+use Rattle.step.proofs.Whole.{vps-at}
 use borrow.Author.Needs.{needs}
 use Rattle.step.proofs.access_page.Statement.{statement}
 use Rattle.step.proofs.access_page.Tie as tie
 
 returns : tie.Need-returns
 returns c =
-    let k = c .before .before .before .before .before in
-    (rw (c .intercepted .ensures, k .on-page .ensures), rw (← k .on-page .ensures) (c .before .before .before .store-done .ensures))
+    let stored = c .before .before .before .before in
+    let asked = stored .before .before in
+    rw (vps-at _ _ (asked .before .before .before .before .pre)) (asked .on-page .ensures, (c .intercept .ensures, stored .store-done .ensures))
 
 pub access-page-spec : {M : Type 1} → statement M
 access-page-spec =
@@ -14,8 +16,8 @@ access-page-spec =
     (tie.spec
     (λ c. search needs)
     (λ c. search needs)
-    (λ c κs. tt)
-    (λ c κs. tt)
+    (λ c κs. search needs)
+    (λ c κs. search needs)
     (λ c κs. search needs)
     (λ c. search needs)
     returns)

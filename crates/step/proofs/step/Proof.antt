@@ -1,22 +1,21 @@
--- `step` meets its contract: a well-formed state goes by the rule, and any other is refused. Assumes nothing.
-use mathlib.Core.Path.{refl, sym, _∙_}
+-- `step` meets its contract: a well-formed state has at most four processors (`step-as-if`). Assumes nothing.
+use Rattle.step.proofs.Whole.{step-as-if}
+use mathlib.Core.Path.{_∙_}
 use borrow.Author.Needs.{needs}
-use Rattle.model.specs.Step.{step, nextFor}
 use Rattle.step.proofs.step.Statement.{statement}
 use Rattle.step.proofs.step.Tie as tie
 
-ruled-requires : tie.Need-ruled-requires
-ruled-requires c κs = sym (c .before .before .well-formed .ensures) ∙ c .before .if1 .taken
-
 returns : tie.Need-returns
-unfolding step
 returns c =
-    let k = c .before .before .before .before in
-    rw (sym (k .before .well-formed .ensures) ∙ k .if1 .taken) (c .before .before .ruled .ensures)
-
-returns-2 : tie.Need-returns-2
-unfolding step nextFor
-returns-2 c = rw (sym (c .before .well-formed .ensures) ∙ c .if1 .left) (refl, refl)
+    let done = c .before .before in
+    let formed = done .before .before .before .before in
+    done .step-if .ensures ∙ step-as-if _ _ _ (formed .well-formed .ensures)
 
 pub step-spec : {M : Type 1} → statement M
-step-spec = tie.close (tie.spec (λ c κs. tt) ruled-requires (λ c. search needs) returns (λ c. search needs) returns-2)
+step-spec =
+    tie.close
+    (tie.spec
+    (λ c κs. search needs)
+    (λ c κs. search needs)
+    (λ c. search needs)
+    returns)

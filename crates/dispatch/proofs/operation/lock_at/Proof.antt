@@ -11,6 +11,7 @@ use Rattle.model.specs.Arrays.{numberAt}
 use Rattle.model.specs.State.{noVp, noContext, pastContext, isLevel, context, secureOf, lockBit}
 use Rattle.model.specs.declared.machine.Shape.{Shape}
 use Rattle.model.specs.declared.machine.VirtualProcessor.{VirtualProcessor}
+use Rattle.processor.specs.Record.{vpOf}
 use Rattle.dispatch.proofs.operation.lock_at.Statement.{statement}
 use Rattle.dispatch.proofs.operation.lock_at.Tie as tie
 
@@ -38,7 +39,7 @@ known true z p l = refl
 known false z p l = empty z l
 
 returns : tie.Need-returns
-returns c = let a = c .before .args in rw (c .holds-lock .ensures) (known (a .known) (a .z) (a .p) (a .l))
+returns c = let a = c .before .args in rw (c .holds-lock .ensures) (known (a .known) (a .z) (vpOf (a .p .now)) (a .l))
 
 pub lock-at-spec : {M : Type 1} → statement M
 lock-at-spec = tie.close (tie.spec (λ c κs. tt) returns)

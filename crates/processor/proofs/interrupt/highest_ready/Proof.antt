@@ -1,63 +1,29 @@
--- `interrupt::highest_ready` meets its contract. The loop's invariant: n is at most 256, and the highest ready vector lies below n,
--- if there is one. The measure is n. Assumes nothing.
-use Prim.Native.Nat.{_-_, _/_}
-use mathlib.Core.Path.{sym, _∙_}
-use native.Mathlib.Omega.{arith}
-use Rattle.processor.proofs.Vectors.{Sought, sought-first, sought-next, sought-passed, sought-none, sought-unready, sought-found, none-pending, pending-bit}
+-- `interrupt::highest_ready` meets its contract: the search goes by the words of the level. Assumes nothing.
+use Rattle.processor.proofs.Vectors.{vectors-read}
 use borrow.Author.Needs.{needs}
 use Rattle.processor.proofs.interrupt.highest_ready.Statement.{statement}
 use Rattle.processor.proofs.interrupt.highest_ready.Tie as tie
 
-abbrev Inv-loop : tie.InvT-loop
-Inv-loop c n₀ n = Sought c n
-
-abbrev μ-loop : tie.MeasureT-loop
-μ-loop c n₀ n = n
-
-loop-holds : tie.Need-loop-holds Inv-loop μ-loop
-loop-holds c = sought-first _
-
-returns : tie.Need-returns Inv-loop μ-loop
-returns c = sought-unready _ _ (c .before .before .loop .inv) (c .before .loop-test .taken) (c .if1 .taken)
-
-loop-again : tie.Need-loop-again Inv-loop μ-loop
-loop-again c = let s = c .before .before .before .before .loop .inv in let h = c .before .before .before .loop-test .taken in sought-next _ _ _ s (omega arith) (λ k a b. none-pending (c .before .before .before .before .before .args .t1) ((c .before .before .before .before .loop .n - 1) / 64) 0 64 k (omega arith) (rw (c .if2 .taken)) (omega arith) (omega arith) (omega arith))
-
-loop-again-2 : tie.Need-loop-again-2 Inv-loop μ-loop
-loop-again-2 c = let s = c .before .before .before .before .before .before .loop .inv in let h = c .before .before .before .before .before .loop-test .taken in sought-next _ _ _ s (omega arith) (λ k a b. none-pending _ _ _ 16 k (omega arith) (sym (c .before .take .ensures) ∙ c .if3 .taken) (omega arith) (omega arith) (omega arith))
-
-returns-2 : tie.Need-returns-2 Inv-loop μ-loop
-returns-2 c = sought-found _ _ (c .before .before .before .before .before .before .before .before .loop .inv) (c .before .before .before .before .before .before .before .loop-test .taken) (c .before .before .before .before .before .before .if1 .left) (sym (pending-bit _ _ (omega arith)) ∙ sym (c .before .has-bit .ensures) ∙ c .if4 .taken)
-
-loop-again-3 : tie.Need-loop-again-3 Inv-loop μ-loop
-loop-again-3 c = sought-passed _ _ (c .before .before .before .before .before .before .before .before .loop .inv) (c .before .before .before .before .before .before .before .loop-test .taken) (sym (pending-bit _ _ (omega arith)) ∙ sym (c .before .has-bit .ensures) ∙ c .if4 .left)
-
-returns-3 : tie.Need-returns-3 Inv-loop μ-loop
-returns-3 c = sought-none _ _ (c .before .loop .inv) (omega arith)
+returns : tie.Need-returns
+returns c =
+    rw (
+      c .highest-in .ensures,
+      c .before .level-word5 .ensures .0,
+      c .before .before .level-word4 .ensures .0,
+      c .before .before .before .level-word3 .ensures .0,
+      c .before .before .before .before .level-word2 .ensures .0,
+      c .before .before .before .before .before .level-word .ensures .0,
+    )
+    (vectors-read _ _ _)
 
 pub highest-ready-spec : {M : Type 1} → statement M
 highest-ready-spec =
     tie.close
     (tie.spec
-    Inv-loop
-    μ-loop
-    loop-holds
-    (λ c. search needs)
-    returns
-    (λ c. search needs)
-    (λ c. search needs)
-    (λ c. search needs)
-    (λ c. search needs)
-    loop-again
-    (λ c. search needs)
-    (λ c. search needs)
-    (λ c κs. tt)
-    (λ c. search needs)
-    (λ c. search needs)
-    loop-again-2
-    (λ c. search needs)
-    (λ c κs. tt)
-    returns-2
-    (λ c. search needs)
-    loop-again-3
-    returns-3)
+    (λ c κs. search needs)
+    (λ c κs. search needs)
+    (λ c κs. search needs)
+    (λ c κs. search needs)
+    (λ c κs. search needs)
+    (λ c κs. search needs)
+    returns)

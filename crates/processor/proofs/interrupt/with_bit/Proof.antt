@@ -1,7 +1,7 @@
 -- `interrupt::with_bit` meets its contract: one bit ends by bit 64 (`put-whole`). Assumes nothing.
+use Rattle.word.proofs.FieldLaws.{put-whole}
 use mathlib.Core.Path.{_∙_}
 use native.Mathlib.Omega.{arith}
-use Rattle.word.proofs.FieldLaws.{put-whole}
 use borrow.Author.Needs.{needs}
 use Rattle.processor.proofs.interrupt.with_bit.Statement.{statement}
 use Rattle.processor.proofs.interrupt.with_bit.Tie as tie
@@ -14,5 +14,5 @@ with-bit-spec =
     tie.close
     (tie.spec
     (λ c. search needs)
-    (λ c κs. tt)
+    (λ c κs. search needs)
     returns)

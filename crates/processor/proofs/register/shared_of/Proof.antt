@@ -1,7 +1,8 @@
 -- `register::shared_of` meets its contract, inside the array and past its end. Assumes nothing.
-use borrow.Author.Tests.{lt-ltb, le-ltb}
 use Rattle.model.specs.Arrays.{numberAt}
 use Rattle.model.specs.Registers.{sharedOf}
+use Rattle.processor.proofs.Fields.{shared-read}
+use borrow.Author.Tests.{le-ltb}
 use borrow.Author.Needs.{needs}
 use Rattle.processor.proofs.register.shared_of.Statement.{statement}
 use Rattle.processor.proofs.register.shared_of.Tie as tie
@@ -11,15 +12,15 @@ unfolding sharedOf numberAt
 returns c = rw (← c .before .shared-place .ensures, le-ltb _ _ (c .if1 .taken))
 
 returns-2 : tie.Need-returns-2
-unfolding sharedOf numberAt
-returns-2 c = rw (← c .before .before .shared-place .ensures, lt-ltb _ _ (c .before .if1 .left))
+returns-2 c = shared-read _ _ _ (c .before .before .shared-place .ensures) (c .before .if1 .left)
 
 pub shared-of-spec : {M : Type 1} → statement M
 shared-of-spec =
     tie.close
     (tie.spec
-    (λ c κs. tt)
+    (λ c κs. search needs)
     returns
+    (λ c. search needs)
     (λ c. search needs)
     (λ c. search needs)
     returns-2)

@@ -1,7 +1,7 @@
 -- `session::lines::begin` meets its contract: the state is the fresh one, and the record has room. Assumes nothing.
+use Rattle.session.proofs.Ending.{after-first, fresh-words, with-first}
 use mathlib.Core.Path.{_∙_}
 use borrow.Author.Needs.{needs}
-use Rattle.session.proofs.Ending.{after-first, fresh-words, with-first}
 use Rattle.session.proofs.lines.begin.Statement.{statement}
 use Rattle.session.proofs.lines.begin.Tie as tie
 
@@ -9,11 +9,18 @@ returns : tie.Need-returns
 returns c =
     let w = c .before .before in
     let start = w .before .before .before .before in
+    let o = w .before .before .opened .ensures in
     record {
-      progress = rw (w .before .before .fresh .ensures, fresh-words (start .args .f) (start .pre .1));
+      progress = o .0 ∙ rw (o .1, fresh-words (start .args .f) (start .pre .1));
       wrote = w .write-line .ensures .0 ∙ after-first (start .args .out .now) 0 0 0 0 (start .pre .0);
       written = w .write-line .ensures .1 ∙ with-first (start .args .out .now) 0 0 0 0 (start .pre .0);
     }
 
 pub begin-spec : {M : Type 1} → statement M
-begin-spec = tie.close (tie.spec (λ c κs. tt) (λ c κs. tt) (λ c. search needs) returns)
+begin-spec =
+    tie.close
+    (tie.spec
+    (λ c κs. search needs)
+    (λ c κs. search needs)
+    (λ c. search needs)
+    returns)

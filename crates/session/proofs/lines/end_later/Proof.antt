@@ -1,81 +1,65 @@
--- `session::lines::end_later` meets its contract: the line is malformed, or says an event. Assumes nothing.
-use mathlib.Core.Path.{sym, ap, _∙_}
-use borrow.Author.Needs.{needs}
+-- `session::lines::end_later` meets its contract: the line is answered in the state of the session. Assumes nothing.
+use Prim.Native.Nat.{ℕ}
+use Rattle.session.proofs.ChunkLines.{held-taken, held-within}
+use Rattle.session.proofs.Ending.{ended-by, words-back}
+use Rattle.state.specs.Parts.{machineOf, stateOf}
+use lib.ListN.{length, take}
+use lib.Seq.{length-take-le, sets}
+use mathlib.Core.List.{List}
+use mathlib.Core.Path.{refl, sym, ap, _∙_}
 use native.Mathlib.Nat.{zero-add}
 use native.Mathlib.Omega.{arith}
-use lib.ListN.{length}
-use lib.Seq.{length-take-le, sets}
-use Rattle.session.proofs.Ending.{ended-malformed, event-progress, event-text}
+use borrow.Author.Needs.{needs}
 use Rattle.session.proofs.lines.end_later.Statement.{statement}
 use Rattle.session.proofs.lines.end_later.Tie as tie
 
+slice-aggregate-well-formed : tie.Need-slice-aggregate-well-formed
+slice-aggregate-well-formed c = sym (length-take-le _ _ (omega (arith, c .before .before .before .lent-words .ensures)))
+
+slice-aggregate-answer-line : tie.Need-slice-aggregate-answer-line
+slice-aggregate-answer-line c = sym (length-take-le _ _ (omega (arith, c .before .before .before .before .before .before .before .before .before .lent-words .ensures)))
+
+array-share-prefix-line : tie.Need-array-share-prefix-line
+array-share-prefix-line c = held-within (c .before .before .before .before .before .before .before .before .before .before .before .before .before .before .before .before .before .before .before .args .s .line) (c .before .before .before .before .before .before .before .before .before .before .before .before .before .before .before .before .before .before .before .args .s .length) _ (c .before .before .before .held-length .ensures)
+
+slice-aggregate-answer-line-2 : tie.Need-slice-aggregate-answer-line-2
+slice-aggregate-answer-line-2 c = sym (length-take-le _ _ (held-within (c .before .before .before .before .before .before .before .before .before .before .before .before .before .before .before .before .before .before .before .before .args .s .line) (c .before .before .before .before .before .before .before .before .before .before .before .before .before .before .before .before .before .before .before .before .args .s .length) _ (c .before .before .before .before .held-length .ensures)))
+
+answer-line-requires : tie.Need-answer-line-requires
+answer-line-requires c κs = (omega (arith, c .before .before .before .before .before .before .before .before .before .before .before .before .before .before .before .before .before .before .before .before .before .pre), c .before .before .before .before .before .before .before .well-formed .ensures)
+
 returns : tie.Need-returns
 returns c =
-    let w = c .before .before .before in
-    let told = w .before .before in
-    let said = told .before .before in
-    let next = said .before .before .before .before .before .before in
-    rw (ended-malformed _ _ _ (sym (said .parse .ensures) ∙ told .enum-told .given .1))
+    let w = c .before .before .before .before .before .answer-line in
+    let lent = c .before .before .before .before .before .before .before .before .before .before .before .before .before .before .before .before .before .lent-words in
+    let a = c .before .before .before .before .before .before .before .before .before .before .before .before .before .before .before .before .before .before .before .before .before .before .before .before .before .before .before .args in
+    let size = c .before .before .before .before .before .before .before .before .before .before .before .held-length in
+    let rows = c .before .before .before .before .before .before .before .before .before .before .before .before .before .before .before .before .before .before .before .before .records in
+    let s = stateOf (machineOf (a .s .setup) (a .s .levels) (a .s .masks) (rows .result)) (take (lent .result) (a .s .words)) in
+    let e = ended-by (a .s .number) s _ (take (size .result) (a .s .line)) _ (w .ensures .0) refl in
+    rw (← lent .ensures .0, ← rows .ensures, ← held-taken (a .s .line) (a .s .length) _ (size .ensures))
     (record {
-      progress = c .resume .ensures ∙ rw (next .wrapping-add-u64 .ensures);
-      wrote = w .write-answer .ensures .0 ∙ zero-add _;
-      written = w .write-answer .ensures .1;
-    })
-
-slice-aggregate-step : tie.Need-slice-aggregate-step
-slice-aggregate-step c =
-    let lent = c .before .before .before .before .before .before .before in
-    sym (length-take-le _ _ (omega (arith, lent .lent-words .ensures)))
-
-write-answer-requires-2 : tie.Need-write-answer-requires-2
-write-answer-requires-2 c κs =
-    let known = c .before .before .before .before .before .before .before .before .before .before .before .before in
-    omega (arith, known .before .before .before .before .before .before .before .pre)
-
-returns-2 : tie.Need-returns-2
-returns-2 c =
-    let w = c .before .before .before in
-    let shown = w .before .before in
-    let done = shown .before .before .before in
-    let on = done .before .before in
-    let told = on .before .before in
-    let said = told .before .before in
-    let lent = said .before .before in
-    let next = lent .before .before .before .before in
-    let a = next .before .before .before .args in
-    let said-event = sym (said .parse .ensures) ∙ told .e .given .1 in
-    let text = event-text (a .s .number) (a .s .machine) (a .s .words) _ (lent .lent-words .result) _ said-event (done .step .result) (done .step .ensures .0) _ (done .step .ensures .1)
-    (on .processor-of .result) (on .processor-of .ensures) (shown .level-on .result) (shown .level-on .ensures) in
-    let progress = event-progress (a .s .number) (a .s .machine) (a .s .words) _ (lent .lent-words .result) _ said-event (done .step .result) (done .step .ensures .0) _ (done .step .ensures .1)
-    (omega (arith, lent .lent-words .ensures)) (done .step .kept .1 .0) in
-    rw (← lent .lent-words .ensures .0)
-    (record {
-      progress = c .resume2 .ensures ∙ rw (next .wrapping-add-u64 .ensures, ← lent .lent-words .ensures .0) progress;
-      wrote = w .write-answer2 .ensures .0 ∙ zero-add _ ∙ ap length text;
-      written = w .write-answer2 .ensures .1 ∙ ap (sets (a .out .now) 0) text;
+      progress = c .resume .ensures ∙ rw (c .before .before .before .before .before .before .before .before .before .before .before .before .before .before .before .before .before .before .before .before .before .before .before .before .wrapping-add-u64 .ensures, ← lent .ensures .0, words-back (a .s .words) _ (lent .result) (omega (arith, lent .ensures)) (w .kept .1 .1 .1 .1 .1 .0)) (e .0);
+      wrote = w .ensures .1 .1 .0 ∙ zero-add _ ∙ ap length (e .1);
+      written = w .ensures .1 .1 .1 ∙ ap (λ (t : List ℕ). sets (a .out .now) 0 t) (e .1);
     })
 
 pub end-later-spec : {M : Type 1} → statement M
 end-later-spec =
     tie.close
     (tie.spec
-    (λ c κs. tt)
-    (λ c κs. tt)
-    (λ c κs. tt)
-    (λ c. search needs)
-    (λ c. search needs)
     (λ c κs. search needs)
-    (λ c κs. tt)
+    (λ c κs. search needs)
+    (λ c κs. search needs)
     (λ c. search needs)
-    returns
-    (λ c κs. tt)
+    slice-aggregate-well-formed
+    (λ c κs. search needs)
+    (λ c κs. search needs)
     (λ c. search needs)
-    slice-aggregate-step
-    (λ c κs. tt)
+    slice-aggregate-answer-line
+    array-share-prefix-line
+    slice-aggregate-answer-line-2
+    answer-line-requires
+    (λ c κs. search needs)
     (λ c. search needs)
-    (λ c. search needs)
-    (λ c κs. tt)
-    write-answer-requires-2
-    (λ c κs. tt)
-    (λ c. search needs)
-    returns-2)
+    returns)

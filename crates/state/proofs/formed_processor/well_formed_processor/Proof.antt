@@ -2,14 +2,26 @@
 use mathlib.Core.Path.{_≡_}
 use Rattle.model.specs.Bounded.{bits}
 use Rattle.model.specs.State.{enabledAt}
-use Rattle.state.proofs.Forms.{processor-joined}
-use Rattle.processor.proofs.Levels.{context-read, enabled-read, level-bits}
+use Rattle.model.proofs.Sets.{bits-four}
+use Rattle.state.proofs.Forms.{context-read, enabled-read, processor-joined}
 use borrow.Author.Needs.{needs}
 use Rattle.state.proofs.formed_processor.well_formed_processor.Statement.{statement}
 use Rattle.state.proofs.formed_processor.well_formed_processor.Tie as tie
 
 returns : tie.Need-returns
-returns c = let a = c .before .before .before .before .before .before .before .before .before .before .before .before .before .before .before .args in let on : c .before .before .before .before .before .before .before .before .before .before .level-set .result ≡ bits 4 (enabledAt (a .z) (a .t2)) = rw (c .before .before .before .before .before .before .before .before .before .before .level-set .ensures, c .before .before .before .before .before .before .before .before .before .before .before .is-level4 .ensures, c .before .before .before .before .before .before .before .before .before .before .before .before .is-level3 .ensures, c .before .before .before .before .before .before .before .before .before .before .before .before .before .is-level2 .ensures, c .before .before .before .before .before .before .before .before .before .before .before .before .before .before .is-level .ensures, enabled-read _ _ 0, enabled-read _ _ 1, enabled-read _ _ 2, enabled-read _ _ 3) (level-bits (enabledAt (a .z) (a .t2))) in rw (c .in-set2 .ensures, c .before .in-set .ensures, c .before .before .well-formed-at4 .ensures, c .before .before .before .before .well-formed-at3 .ensures, c .before .before .before .before .before .before .well-formed-at2 .ensures, c .before .before .before .before .before .before .before .before .well-formed-at .ensures, on, context-read _ _ 0, context-read _ _ 1, context-read _ _ 2, context-read _ _ 3) (processor-joined (a .z) (a .t2) (a .enabled) (a .mbec))
+returns c =
+    let third = c .before .before in
+    let second = third .before .before in
+    let first = second .before .before in
+    let zeroth = first .before .before in
+    let set = zeroth .before .before in
+    let top = set .before in
+    let a = top .before .before .before .before .args in
+    let on : set .level-set .result ≡ bits 4 (enabledAt (a .z) (a .t2)) =
+    rw (set .level-set .ensures, top .is-level4 .ensures, top .before .is-level3 .ensures, top .before .before .is-level2 .ensures, top .before .before .before .is-level .ensures)
+    (rw (enabled-read _ _ 0, enabled-read _ _ 1, enabled-read _ _ 2, enabled-read _ _ 3) (bits-four (enabledAt (a .z) (a .t2)))) in
+    rw (c .in-set2 .ensures, c .before .in-set .ensures, third .well-formed-at4 .ensures, second .well-formed-at3 .ensures, first .well-formed-at2 .ensures, zeroth .well-formed-at .ensures)
+    (rw (on, context-read _ _ 0, context-read _ _ 1, context-read _ _ 2, context-read _ _ 3) (processor-joined (a .z) (a .t2) (a .enabled) (a .mbec)))
 
 pub well-formed-processor-spec : {M : Type 1} → statement M
 well-formed-processor-spec =

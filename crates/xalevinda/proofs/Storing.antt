@@ -1,0 +1,74 @@
+-- Laws of a text that is written piece by piece into a buffer, each piece only where it has room, while its bytes are counted.
+-- Assumes nothing.
+use mathlib.Core.Bool.{Bool, true, false, cond}
+use mathlib.Core.List.{List, [], _++_, append-assoc, append-nil}
+use mathlib.Core.Path.{_≡_, refl, sym, ap, _∙_}
+use Prim.Native.Nat.{ℕ, _+_, _-_, _^_, _≤_, _<_}
+use borrow.Rule.Slice.PartMut.{midOf, putMid}
+use native.Mathlib.Omega.{arith}
+use lib.ListN.{drop, length, length-append, length-drop, take}
+use lib.Seq.{drop-drop, drop-length, length-sets, sets, sets-eq, take-all, take-at, take-length}
+use Rattle.decimal.proofs.Room.{with-no-room, with-room}
+use Rattle.decimal.specs.Write.{hasRoom, withText}
+use Rattle.script.proofs.Stores.{sets-append}
+use Rattle.xalevinda.specs.Exports.{atMostWord, sizeOf}
+use Rattle.xalevinda.specs.Parts.{Stored}
+
+-- What stands from a place on, as the code takes it.
+pub part-whole : (l : List ℕ) (at : ℕ) → midOf at (length l - at) l ≡ drop at l
+part-whole l at = take-all (length l - at) (drop at l) (omega (arith, length-drop at l))
+
+after-part : (l : List ℕ) (at : ℕ) → drop (length l - at) (drop at l) ≡ []
+after-part l at = rw (← length-drop at l) (drop-length (drop at l))
+
+-- A text was copied over the start of what stands from a place on.
+pub copied : (buffer : List ℕ) (at : ℕ) (text : List ℕ) → at + length text ≤ length buffer
+    → (rest : List ℕ) → rest ≡ take (length text) text ++ drop (length text) (midOf at (length buffer - at) buffer)
+    → putMid at (length buffer - at) buffer rest ≡ withText buffer at text
+copied buffer at text room rest e =
+    let over : rest ≡ text ++ drop (at + length text) buffer = e ∙ rw (part-whole buffer at, take-length text, drop-drop (length text) at buffer) in
+    rw (after-part buffer at, append-nil rest, over, with-room buffer at text room)
+    (sym (append-assoc (take at buffer) text (drop (at + length text) buffer)) ∙ sym (sets-eq text buffer at room))
+
+-- The buffer keeps its length.
+pub with-length : (buffer : List ℕ) (at : ℕ) (text : List ℕ) → length (withText buffer at text) ≡ length buffer
+unfolding withText
+with-length buffer at text = go (hasRoom buffer at text)
+  where
+    go : (t : Bool) → length (cond t (sets buffer at text) buffer) ≡ length buffer
+    go true = length-sets buffer at text
+    go false = refl
+
+-- A text at the start of a buffer is taken from there.
+pub front : (buffer text : List ℕ) (n : ℕ) → n ≡ length text → n ≤ length (sets buffer 0 text) → take n (sets buffer 0 text) ≡ text
+front buffer text n e h =
+    rw (sets-eq text buffer 0 (omega (arith, length-sets buffer 0 text))) (take-at text (drop (0 + length text) buffer) n (sym e))
+
+-- Nothing yet, and one piece more.
+pub stored-none : (out : List ℕ) → Stored [] 0 out out
+stored-none out = record { counted = refl; same-length = refl; stored = λ h. refl }
+
+pub stored-more : {text : List ℕ} {size : ℕ} {before out : List ℕ} → Stored text size before out → length before < 2 ^ 63
+    → (piece : List ℕ) {size′ : ℕ} {out′ : List ℕ} → size′ ≡ atMostWord (size + length piece) → out′ ≡ withText out size piece
+    → Stored (text ++ piece) size′ before out′
+stored-more {text} {size} {before} {out} w h piece {size′} {out′} counted put = record {
+  counted = omega (arith, counted, w .counted, length-append text piece);
+  same-length = ap length put ∙ with-length out size piece ∙ w .same-length;
+  stored = λ fits.
+      let both : length text + length piece ≤ length before = omega (arith, length-append text piece) in
+      let place : size ≡ 0 + length text = omega (arith, w .counted) in
+      put
+      ∙ with-room out size piece (omega (arith, w .same-length))
+      ∙ rw (w .stored (omega arith), place) (sets-append text before 0 piece);
+}
+
+-- All of a text was stored where as many bytes as it has fit.
+pub stored-whole : {text : List ℕ} {size count : ℕ} {before after : List ℕ} → Stored text size before after → length before < 2 ^ 63
+    → count ≡ sizeOf text → count ≤ length before → after ≡ withText before 0 text
+stored-whole {text} {size} {count} {before} w h counted fits =
+    let room : length text ≤ length before = omega arith in
+    w .stored room ∙ sym (with-room before 0 text (omega arith))
+
+-- Nothing was stored where they do not fit.
+pub stored-nothing : (text : List ℕ) (count : ℕ) (before : List ℕ) → count ≡ sizeOf text → length before < count → before ≡ withText before 0 text
+stored-nothing text count before counted short = sym (with-no-room before 0 text (omega arith))

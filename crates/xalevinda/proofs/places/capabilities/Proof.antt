@@ -1,0 +1,20 @@
+-- `xalevinda::places::capabilities` meets its contract: each field by its number, and past the last one no bits. Assumes nothing.
+use mathlib.Core.Path.{_∙_}
+use native.Mathlib.Omega.{arith}
+use Rattle.word.specs.Registers.{capabilities}
+use Rattle.xalevinda.proofs.Fields.{place-past}
+use Rattle.xalevinda.proofs.places.capabilities.Statement.{statement}
+use Rattle.xalevinda.proofs.places.capabilities.Tie as tie
+
+pub capabilities-spec : {M : Type 1} → statement M
+capabilities-spec =
+    tie.close
+    (tie.spec
+    (λ c κs. tt)
+    (λ c κs. tt)
+    (λ c κs. tt)
+    (λ c κs. tt)
+    (λ c. rw (c .before .match .keys1) (c .at .ensures))
+    (λ c. rw (c .before .match .keys2) (c .at2 .ensures))
+    (λ c. rw (c .before .match .keys3) (c .at3 .ensures))
+    (λ c. c .at4 .ensures ∙ place-past (capabilities .layout) (c .before .before .args .field) (omega arith)))

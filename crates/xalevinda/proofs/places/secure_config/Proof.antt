@@ -1,0 +1,18 @@
+-- `xalevinda::places::secure_config` meets its contract: each field by its number, and past the last one no bits. Assumes nothing.
+use mathlib.Core.Path.{_∙_}
+use native.Mathlib.Omega.{arith}
+use Rattle.word.specs.Registers.{secureConfig}
+use Rattle.xalevinda.proofs.Fields.{place-past}
+use Rattle.xalevinda.proofs.places.secure_config.Statement.{statement}
+use Rattle.xalevinda.proofs.places.secure_config.Tie as tie
+
+pub secure-config-spec : {M : Type 1} → statement M
+secure-config-spec =
+    tie.close
+    (tie.spec
+    (λ c κs. tt)
+    (λ c κs. tt)
+    (λ c κs. tt)
+    (λ c. rw (c .before .match .keys1) (c .at .ensures))
+    (λ c. rw (c .before .match .keys2) (c .at2 .ensures))
+    (λ c. c .at3 .ensures ∙ place-past (secureConfig .layout) (c .before .before .args .field) (omega arith)))

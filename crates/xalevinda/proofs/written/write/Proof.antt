@@ -1,0 +1,106 @@
+-- `xalevinda::written::write` meets its contract. The loop's invariant is `Listed`, and the measure is what is left of the script.
+-- Assumes nothing.
+use mathlib.Core.Path.{_≡_, sym, ap, _∙_}
+use Prim.Native.Nat.{_+_, _-_, _^_, _<_, _≤_}
+use borrow.Author.Needs.{needs}
+use borrow.Rule.Slice.PartMut.{midOf}
+use native.Mathlib.Omega.{arith}
+use lib.ListN.{drop, length, length-drop}
+use Rattle.session.specs.Session.{progressOf}
+use Rattle.xalevinda.proofs.Listed.{Listed, listed-done, listed-fed, listed-start, some-used}
+use Rattle.xalevinda.proofs.Storing.{part-whole}
+use Rattle.xalevinda.proofs.written.write.Statement.{statement}
+use Rattle.xalevinda.proofs.written.write.Tie as tie
+
+abbrev Inv-loop : tie.InvT-loop
+Inv-loop script out₀ records₀ s₀ size₀ at₀ out records s size at = (65536 ≡ length records) × Listed script out₀ (progressOf s) at size out
+
+abbrev μ-loop : tie.MeasureT-loop
+μ-loop script out₀ records₀ s₀ size₀ at₀ out records s size at = length script - at
+
+-- No buffer has 2 ^ 63 bytes.
+bounded : (c : tie.Start Inv-loop μ-loop) → length (c .args .out .now) < 2 ^ 63
+bounded c = omega (arith, c .good)
+
+-- The piece that is fed is what is left of the script.
+fed-part : (c : tie.In-loop Inv-loop μ-loop)
+    → let script = c .before .before .before .before .before .before .args .script .now in
+    let at = c .before .loop .at in midOf at (length script - at) script ≡ drop at script
+fed-part c = part-whole (c .before .before .before .before .before .before .args .script .now) (c .before .loop .at)
+
+-- Some of it is used, and no more than there is.
+moves : (c : tie.After-feed Inv-loop μ-loop)
+    → let inside = c .before .before .before in
+    let at = inside .before .loop .at in
+    let end = at + c .feed .result .used in (at < end) × (end ≤ length (inside .before .before .before .before .before .before .args .script .now))
+moves c =
+    let inside = c .before .before .before in
+    let head = inside .before .loop in
+    let script = inside .before .before .before .before .before .before .args .script .now in
+    let chunk = midOf (head .at) (length script - head .at) script in
+    let size : length chunk ≡ length script - head .at = ap length (fed-part inside) ∙ length-drop (head .at) script in
+    let some = some-used (progressOf (head .s)) chunk (length (head .records)) (omega (arith, head .inv .0)) (omega (arith, inside .loop-test .taken, size)) in
+    omega (arith, some, c .feed .ensures .1 .0, c .feed .ensures .1 .1 .1 .1 .used-within, head .inv .1 .within, size)
+
+loop-holds : tie.Need-loop-holds Inv-loop μ-loop
+loop-holds c =
+    let a = c .before .before .before .before .args in
+    (c .before .piece .ensures, listed-start (a .script .now) (a .out .now) _ (c .fresh .ensures))
+
+add-at : tie.Need-add-at Inv-loop μ-loop
+add-at c =
+    let fed = c .before .before .before .before .before .before .before .before in
+    omega (arith, moves fed, fed .before .before .before .before .before .before .before .before .before .good)
+
+loop-less : tie.Need-loop-less Inv-loop μ-loop
+loop-less c = omega (arith, moves (c .before .before .before .before .before .before .before .before .before))
+
+loop-again : tie.Need-loop-again Inv-loop μ-loop
+loop-again c =
+    let put = c .before .before .before .before .before in
+    let fed = put .before .before .before .before in
+    let inside = fed .before .before .before in
+    let head = inside .before .loop in
+    let start = inside .before .before .before .before .before .before in
+    let e = fed .feed .ensures in (
+      head .inv .0 ∙ sym (fed .feed .kept .1 .1 .0),
+      listed-fed (head .inv .1) (bounded start) (head .records) _ (fed-part inside) (e .0) (e .1 .0) (e .1 .1 .0) (e .1 .1 .1 .0) (e .1 .1 .1 .1) (c .before .before .added .ensures) (put .put .ensures),
+    )
+
+returns : tie.Need-returns Inv-loop μ-loop
+returns c =
+    let put = c .before .before .before in
+    let finished = put .before .before .before in
+    let ended = finished .before .before in
+    let start = ended .before .before .before .before .before .before in
+    let e = finished .finish .ensures in
+    listed-done (ended .before .loop .inv .1) (bounded start) (ended .loop-test .left) _ (e .0) (e .1 .0) (e .1 .1 .wrote-within) (c .added2 .ensures) (put .put2 .ensures)
+
+pub write-spec : {M : Type 1} → statement M
+write-spec =
+    tie.close
+    (tie.spec
+    Inv-loop
+    μ-loop
+    (λ c κs. tt)
+    (λ c κs. tt)
+    loop-holds
+    (λ c. omega (arith, c .loop-test .taken))
+    (λ c. search needs)
+    (λ c. search needs)
+    (λ c. search needs)
+    (λ c κs. tt)
+    (λ c. search needs)
+    (λ c. search needs)
+    (λ c κs. tt)
+    (λ c κs. tt)
+    add-at
+    loop-less
+    loop-again
+    (λ c κs. tt)
+    (λ c. search needs)
+    (λ c. search needs)
+    (λ c κs. tt)
+    (λ c κs. tt)
+    (λ c. search needs)
+    returns)

@@ -1,0 +1,21 @@
+/* The functions of target/staticlib/libxalevinda.a, which `rt staticlib xalevinda` builds (x86-64). Their contracts are in
+ * crates/xalevinda/src/lib.rt. They call nothing of the system and allocate nothing. A pointer is never null, also where its length is
+ * 0, and what `out` points to does not overlap the script. */
+#ifndef XALEVINDA_H
+#define XALEVINDA_H
+
+#include <stddef.h>
+#include <stdint.h>
+
+/* Writes the listing of a script at the start of `out`: all of it, or nothing where `out_length` is too short. Returns how many bytes
+ * the listing has, or SIZE_MAX where it has more. The script is run twice, to count and to write; once only where `out` has 84 bytes
+ * for every line feed and 84 more. */
+size_t xalevinda_listing(const uint8_t *script, size_t script_length, uint8_t *out, size_t out_length);
+
+/* The value of a field of a register's word, and the word with that field replaced by the low bits of `value`. Registers: 0 capabilities,
+ * 1 partition status, 2 VP status, 3 partition configuration, 4 secure configuration, 5 code page offsets. Fields that are not reserved
+ * are numbered from 0 in the order of document 001. For any other number the value is 0, and the word stays as it is. */
+uint64_t xalevinda_field(uint64_t register_number, uint64_t field, uint64_t word);
+uint64_t xalevinda_with_field(uint64_t register_number, uint64_t field, uint64_t word, uint64_t value);
+
+#endif
