@@ -23,7 +23,7 @@ fn number_end(line: &[u8], start: usize) -> usize
 }
 
 // Reads the numbers of the fields after the one that ends at `from` into `values`, and says whether they are just so many.
-pub fn numbers(line: &[u8], from: usize, takes: usize, values: &mut [u64; 7]) -> bool
+pub(crate) fn numbers(line: &[u8], from: usize, takes: usize, values: &mut [u64; 7]) -> bool
     requires { ⌜ from ≤ length (now line) ⌝ }
     requires { ⌜ takes ≤ 7 ⌝ }
     requires { ⌜ now values ≡ replicate 7 0 ⌝ }

@@ -4,18 +4,18 @@ ghost use mathlib.Core.Path.{_≡_};
 ghost use lib.ListN.{length};
 use session::Session;
 
-// The bytes that are read at once.
-fn in_buffer() -> [u8; 4096]
-    ensures { λ r. ⌜ 4096 ≡ length r ⌝ }
+// The bytes that are read at once. What is done once a chunk is then spread over some five hundred lines.
+fn in_buffer() -> [u8; 8192]
+    ensures { λ r. ⌜ 8192 ≡ length r ⌝ }
 {
-    [0; 4096]
+    [0; 8192]
 }
 
 // 84 bytes for each byte that is read: room for every record of a chunk (`all-used` of session).
-fn out_buffer() -> [u8; 344064]
-    ensures { λ r. ⌜ 344064 ≡ length r ⌝ }
+fn out_buffer() -> [u8; 688128]
+    ensures { λ r. ⌜ 688128 ≡ length r ⌝ }
 {
-    [0; 344064]
+    [0; 688128]
 }
 
 // The session after a chunk, and whether to read on.

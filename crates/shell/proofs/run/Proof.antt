@@ -6,7 +6,7 @@ use Rattle.shell.proofs.run.Statement.{statement}
 use Rattle.shell.proofs.run.Tie as tie
 
 abbrev Inv-loop : tie.InvT-loop
-Inv-loop descriptor out₀ buffer₀ s₀ turns₀ t10 out buffer s turns = (344064 ≡ length out) × (4096 ≡ length buffer)
+Inv-loop descriptor out₀ buffer₀ s₀ turns₀ t10 out buffer s turns = (688128 ≡ length out) × (8192 ≡ length buffer)
 
 abbrev μ-loop : tie.MeasureT-loop
 μ-loop descriptor out₀ buffer₀ s₀ turns₀ t10 out buffer s turns = turns
