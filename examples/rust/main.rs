@@ -32,12 +32,12 @@ fn check_listing(name: &str, script: &[u8], stored: &[u8]) -> Checked {
     Ok(())
 }
 
-/// The scripts of crates/cases/data, in the order of the file `names`. `stdout` has each script's name and then its listing.
+/// The scripts that the bench is held to in the gate: `args` names them, `-` for `stdin`. `stdout` has each name and then the listing.
 fn check_cases(root: &Path) -> Result<usize, String> {
-    let names = String::from_utf8(read(&root.join("crates/cases/data/names"))?)
+    let names = String::from_utf8(read(&root.join("crates/bench/args"))?)
         .map_err(|e| e.to_string())?;
     let stored =
-        String::from_utf8(read(&root.join("crates/cases/stdout"))?).map_err(|e| e.to_string())?;
+        String::from_utf8(read(&root.join("crates/bench/stdout"))?).map_err(|e| e.to_string())?;
     let mut rest = stored.as_str();
     for (i, name) in names.lines().enumerate() {
         rest = rest
@@ -51,11 +51,11 @@ fn check_cases(root: &Path) -> Result<usize, String> {
             }
             None => rest.len(),
         };
-        check_listing(
-            name,
-            &read(&root.join("crates/cases/data").join(name))?,
-            rest[..end].as_bytes(),
-        )?;
+        let script = match name {
+            "-" => root.join("crates/bench/stdin"),
+            _ => root.join("crates/bench/data").join(name),
+        };
+        check_listing(name, &read(&script)?, rest[..end].as_bytes())?;
         rest = &rest[end..];
     }
     Ok(names.lines().count())

@@ -31,9 +31,9 @@ use Rattle.processor_events.proofs.Joins.{call-joined, ret-joined, secure-joine
 use Rattle.events.specs.Conditions.{ifDone}
 use Rattle.events.specs.Scope.{scopeOf}
 use Rattle.events.specs.Status.{flushAnswer}
-use Rattle.dispatch.specs.Operation.{wordsDone, lockedIn}
+use Rattle.operation.specs.Operation.{wordsDone, lockedIn}
 use Rattle.step.specs.Outcome.{pageNext, outcomeOf}
-use Rattle.dispatch.specs.Request.{requestOf}
+use Rattle.request.specs.Request.{requestOf}
 
 -- An event that is refused or done, by its answer and its effect.
 module _ (s : State) (e : Event) (t : State) where

@@ -34,15 +34,15 @@ use Rattle.events.specs.Conditions.{isDone, ifDone}
 use Rattle.events.specs.Scope.{VpStep, scopeOf}
 use Rattle.events.specs.Status.{flushAnswer}
 use Rattle.processor_events.specs.Events.{callIn, retIn, secureIn, wregIn, tprIn, ackIn, envpIn, intIn}
-use Rattle.dispatch.specs.declared.request.LevelOperation.{LevelOperation}
-use Rattle.dispatch.specs.declared.request.Operation.{Operation}
-use Rattle.dispatch.specs.declared.request.Operation.the-variants.{OnProcessor, OnLevels, OnPage, Flush, OnNothing}
-use Rattle.dispatch.specs.declared.request.ProcessorOperation.{ProcessorOperation}
-use Rattle.dispatch.specs.declared.request.ProcessorOperation.the-variants.{Envp, Call, Ret, Secure, Wreg, Tpr, Ack, Int}
-use Rattle.dispatch.specs.declared.request.Query.{Query}
-use Rattle.dispatch.specs.declared.request.Request.{Request}
-use Rattle.dispatch.specs.Operation.{scopeIn, onProcessor, levelAnswer, levelRecords, levelMasks, wordsDone, lockedIn, queryAnswer}
-use Rattle.dispatch.specs.Request.{requestOf}
+use Rattle.request.specs.declared.LevelOperation.{LevelOperation}
+use Rattle.request.specs.declared.Operation.{Operation}
+use Rattle.request.specs.declared.Operation.the-variants.{OnProcessor, OnLevels, OnPage, Flush, OnNothing}
+use Rattle.request.specs.declared.ProcessorOperation.{ProcessorOperation}
+use Rattle.request.specs.declared.ProcessorOperation.the-variants.{Envp, Call, Ret, Secure, Wreg, Tpr, Ack, Int}
+use Rattle.request.specs.declared.Query.{Query}
+use Rattle.request.specs.declared.Request.{Request}
+use Rattle.operation.specs.Operation.{scopeIn, onProcessor, levelAnswer, levelRecords, levelMasks, wordsDone, lockedIn, queryAnswer}
+use Rattle.request.specs.Request.{requestOf}
 use Rattle.step.specs.Outcome.{pageNext, byOperation, outcomeOf}
 use Rattle.step.specs.Stepped.{operatedOn, pageOn, enteredBy, stepIf}
 use Rattle.step.proofs.Requests.{by-request, unnamed}

@@ -13,11 +13,11 @@ use Rattle.events.specs.declared.scope.Scope.{Scope}
 use Rattle.events.specs.Conditions.{ifDone}
 use Rattle.events.specs.Scope.{scopeOf, vpOutcome}
 use Rattle.events.specs.Status.{flushAnswer}
-use Rattle.dispatch.specs.declared.request.LevelOperation.{LevelOperation}
-use Rattle.dispatch.specs.declared.request.Operation.{Operation}
-use Rattle.dispatch.specs.declared.request.Operation.the-variants.{OnProcessor, OnLevels, OnPage, Flush, OnNothing}
-use Rattle.dispatch.specs.declared.request.Request.{Request}
-use Rattle.dispatch.specs.Operation.{onProcessor, levelAnswer, levelRecords, levelMasks, pageIn, wordsDone, lockedIn, queryAnswer}
+use Rattle.request.specs.declared.LevelOperation.{LevelOperation}
+use Rattle.request.specs.declared.Operation.{Operation}
+use Rattle.request.specs.declared.Operation.the-variants.{OnProcessor, OnLevels, OnPage, Flush, OnNothing}
+use Rattle.request.specs.declared.Request.{Request}
+use Rattle.operation.specs.Operation.{onProcessor, levelAnswer, levelRecords, levelMasks, pageIn, wordsDone, lockedIn, queryAnswer}
 
 -- An operation on the levels, where it is done.
 abbrev pub levelsDone : State → Scope → LevelOperation → State

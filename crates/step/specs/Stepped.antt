@@ -17,8 +17,8 @@ use Rattle.model.specs.State.{State, processors, pastVp}
 use Rattle.model.specs.Step.{Outcome, ruled, answered}
 use Rattle.events.specs.declared.scope.Scope.{Scope}
 use Rattle.events.specs.Scope.{VpStep}
-use Rattle.dispatch.specs.declared.request.ProcessorOperation.{ProcessorOperation}
-use Rattle.dispatch.specs.Operation.{onProcessor, pageIn}
+use Rattle.request.specs.declared.ProcessorOperation.{ProcessorOperation}
+use Rattle.operation.specs.Operation.{onProcessor, pageIn}
 
 -- An operation on the record of processor w, among the records ps.
 abbrev pub operatedOn : Scope → List VirtualProcessor → ℕ → ℕ → ℕ → ProcessorOperation → VpStep

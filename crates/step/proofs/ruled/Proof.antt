@@ -1,7 +1,7 @@
 -- `ruled` meets its contract: the laws of proofs/Whole.antt at each return. Assumes nothing.
 use Prim.Native.Nat.{ℕ, _<_}
-use Rattle.dispatch.specs.Request.{requestOf}
-use Rattle.dispatch.specs.declared.request.Request.{Request}
+use Rattle.request.specs.Request.{requestOf}
+use Rattle.request.specs.declared.Request.{Request}
 use Rattle.model.specs.declared.event.Event.{Event}
 use Rattle.model.specs.declared.machine.Machine.{Machine}
 use Rattle.state.specs.Parts.{machineOf}

@@ -1,0 +1,40 @@
+-- `shell::run` is safe and ends: the buffers keep their lengths, and the turns count down. Assumes nothing.
+use mathlib.Core.Path.{_≡_}
+use borrow.Author.Needs.{needs}
+use lib.ListN.{length}
+use Rattle.bench.proofs.shell.run.Statement.{statement}
+use Rattle.bench.proofs.shell.run.Tie as tie
+
+abbrev Inv-loop : tie.InvT-loop
+Inv-loop descriptor out₀ buffer₀ s₀ turns₀ t10 out buffer s turns = (688128 ≡ length out) × (8192 ≡ length buffer)
+
+abbrev μ-loop : tie.MeasureT-loop
+μ-loop descriptor out₀ buffer₀ s₀ turns₀ t10 out buffer s turns = turns
+
+pub run-spec : {M : Type 1} → statement M
+run-spec =
+    tie.close
+    (tie.spec
+    Inv-loop
+    μ-loop
+    (λ c κs. search needs)
+    (λ c κs. search needs)
+    (λ c κs. search needs)
+    (λ c. search needs)
+    (λ c. search needs)
+    (λ c κs. search needs)
+    (λ c. search needs)
+    (λ c κs. search needs)
+    (λ c. search needs)
+    (λ c. search needs)
+    (λ c κs. search needs)
+    (λ c. search needs)
+    (λ c. search needs)
+    (λ c. search needs)
+    (λ c κs. search needs)
+    (λ c. search needs)
+    (λ c. search needs)
+    (λ c. search needs)
+    (λ c. search needs)
+    (λ c κs. search needs)
+    (λ c. search needs))

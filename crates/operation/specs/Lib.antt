@@ -1,0 +1,2 @@
+-- The definitions of operations. Assumes nothing.
+pub mod Operation  -- operations on the parts that they are given
