@@ -121,7 +121,8 @@ fn restore(p: &mut Record, k: Control)
 fn leave(z: Shape, p: &mut Record)
     ensures { λ _. ⌜ vpOf (now (p .exit)) ≡ left z (vpOf (now (p .entry))) ⌝ }
 {
-    let control = control_of(z, p, active_of(p));
+    let l = active_of(p);
+    let control = control_of(z, p, l);
     restore(p, control);
     set_active(p, control.from.0);
 }

@@ -20,7 +20,8 @@ use Rattle.events.specs.declared.scope.Scope.{Scope}
 use Rattle.events.specs.Scope.{VpStep}
 use Rattle.events.specs.Access.{accessAnswer}
 use Rattle.events.specs.Levels.{enpartAnswer, enpartLevels, protectAnswer, configAnswer, configLevels, configMasks}
-use Rattle.processor_events.specs.Events.{callIn, retIn, secureIn, rregIn, wregIn, tprIn, ackIn, envpIn, intIn}
+use Rattle.entry_events.specs.Events.{callIn, retIn, envpIn, intIn}
+use Rattle.record_events.specs.Events.{secureIn, rregIn, wregIn, tprIn, ackIn}
 use Rattle.events.specs.Status.{statusAnswer, partitionWord, processorWord, capabilityWord}
 use Rattle.request.specs.declared.LevelOperation.{LevelOperation}
 use Rattle.request.specs.declared.LevelOperation.the-variants.{Enpart, Protect, Config}

@@ -27,7 +27,8 @@ use Rattle.model.specs.Step.{rule, maker, intercepted, nextFor, ruled, answered
 use Rattle.model.specs.Updates.{setMask, setWord, putMasks}
 use Rattle.events.proofs.Chain.{answerOf, plain, first-settles, settles}
 use Rattle.events.proofs.PartitionJoins.{enpart-answer, protect-answer, config-answer, enpart-effect, config-effect, read-answer, write-answer, fetch-answer, flush-joined, pstat-joined, vstat-joined, caps-joined}
-use Rattle.processor_events.proofs.Joins.{call-joined, ret-joined, secure-joined, rreg-joined, wreg-joined, tpr-joined, ack-joined, envp-joined, int-joined}
+use Rattle.entry_events.proofs.Joins.{call-joined, ret-joined, envp-joined, int-joined}
+use Rattle.record_events.proofs.Joins.{secure-joined, rreg-joined, wreg-joined, tpr-joined, ack-joined}
 use Rattle.events.specs.Conditions.{ifDone}
 use Rattle.events.specs.Scope.{scopeOf}
 use Rattle.events.specs.Status.{flushAnswer}

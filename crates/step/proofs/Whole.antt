@@ -33,7 +33,8 @@ use Rattle.events.specs.declared.scope.Scope.{Scope}
 use Rattle.events.specs.Conditions.{isDone, ifDone}
 use Rattle.events.specs.Scope.{VpStep, scopeOf}
 use Rattle.events.specs.Status.{flushAnswer}
-use Rattle.processor_events.specs.Events.{callIn, retIn, secureIn, wregIn, tprIn, ackIn, envpIn, intIn}
+use Rattle.entry_events.specs.Events.{callIn, retIn, envpIn, intIn}
+use Rattle.record_events.specs.Events.{secureIn, wregIn, tprIn, ackIn}
 use Rattle.request.specs.declared.LevelOperation.{LevelOperation}
 use Rattle.request.specs.declared.Operation.{Operation}
 use Rattle.request.specs.declared.Operation.the-variants.{OnProcessor, OnLevels, OnPage, Flush, OnNothing}

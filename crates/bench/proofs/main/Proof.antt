@@ -12,7 +12,6 @@ Inv-loop count name₀ i₀ name i = 4096 ≡ length name
 abbrev μ-loop : tie.MeasureT-loop
 μ-loop count name₀ i₀ name i = count - i
 
-
 pub main-spec : {M : Type 1} → statement M
 main-spec =
     tie.close

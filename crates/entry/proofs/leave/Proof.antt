@@ -6,7 +6,7 @@ use Rattle.entry.proofs.leave.Tie as tie
 
 returns : tie.Need-returns
 unfolding left restored
-returns c = rw (c .set-active .ensures, c .before .before .restore .ensures, c .before .before .before .before .control-of .ensures, c .before .before .before .before .before .active-of .ensures)
+returns c = rw (c .set-active .ensures, c .before .before .restore .ensures, c .before .before .before .before .control-of .ensures, c .before .before .before .before .before .before .active-of .ensures)
 
 pub leave-spec : {M : Type 1} → statement M
 leave-spec =

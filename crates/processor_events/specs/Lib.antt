@@ -1,1 +1,0 @@
-pub mod Events  -- events on a processor's record, decided from the parts that they read
