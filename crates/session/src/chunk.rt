@@ -3,11 +3,9 @@ ghost use mathlib.Core.List.{_++_};
 ghost use mathlib.Core.Path.{_≡_};
 ghost use Prim.Native.Nat.{min};
 ghost use lib.ListN.{take};
-ghost use Rattle.script.specs.Events.{lineEvent};
 ghost use Rattle.script.specs.First.{lineFirst};
 ghost use Rattle.session.specs.Chunk.{lineEnd};
 ghost use Rattle.session.specs.Session.{held};
-use script::Parsed;
 use script::Start;
 use script::search::find_far_byte;
 
@@ -52,15 +50,6 @@ pub(crate) fn held_length(line: &[u8; 257], length: usize) -> usize
 {
     let buffer: &[u8] = line;
     at_most(length, buffer.len())
-}
-
-// What a line after the first says, of which `length` bytes are in the buffer.
-pub(crate) fn parse(line: &[u8; 257], length: usize) -> Parsed
-    ensures { λ r. ⌜ r ≡ lineEvent (held (now (line .entry)) length) ⌝ }
-{
-    let buffer: &[u8] = line;
-    let end = at_most(length, KEPT);
-    script::parse(&buffer[..end])
 }
 
 // What the first line says.
