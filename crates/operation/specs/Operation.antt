@@ -1,5 +1,5 @@
--- Each kind of operation on the parts that it is given: the definitions of the events, by operation. proofs/Requests.antt shows that
--- they give what the rule of each event gives. Assumes nothing.
+-- Each kind of operation on the parts that it is given: the definitions of the events, by operation. Crate `step`
+-- (proofs/Requests.antt) shows that they give what the rule of each event gives. Assumes nothing.
 use mathlib.Core.Bool.{Bool, cond, _&&_}
 use mathlib.Core.List.{List}
 use Prim.Native.Nat.{ℕ, _+_, _*_}

@@ -1,6 +1,5 @@
--- The events that change one processor's record, and the reading of a register: what is decided from the parts is what the
--- model's rule gives, for every state. What the
--- partition holds of the levels is read from its sets (`in-enabled`, `in-mbec`). Assumes nothing.
+-- secure, rreg, wreg, tpr and ack: what is decided from the parts is what the model's rule gives, for every state. Which levels the
+-- partition has MBEC for is read from its set (`in-mbec`). Assumes nothing.
 use mathlib.Core.Path.{_≡_, refl}
 use Prim.Native.Nat.{ℕ}
 use Rattle.model.specs.declared.event.Event.the-variants.{Secure, Rreg, Wreg, Tpr, Ack}
