@@ -10,14 +10,14 @@ use Rattle.model.specs.Events.{onVp, own}
 use Rattle.model.specs.State.{State, maxLevel, vp, active, enabledOn}
 use Rattle.model.specs.Step.{rule, ruled}
 use Rattle.events.specs.Scope.{scopeOf, vpOutcome}
-use Rattle.entry_events.specs.Events.{callIn, retIn, envpIn, intIn}
+use Rattle.entry_events.specs.Events.{callAnswer, callIn, retIn, envpAnswer, envpIn, intAnswer, intIn}
 use Rattle.events.proofs.Levels.{in-enabled}
 use Rattle.events.proofs.Chain.{merge, or-assoc, answerOf, joined}
 
 -- Each event: its answer, and its outcome.
 module _ (s : State) (v : Processor) (mode : ℕ) where
   pub call-answer : (len : ℕ) → answerOf s (Call v mode len) ≡ callIn (scopeOf s (v .0)) (vp s (v .0)) (v .0) mode len .answer
-  unfolding rule firstOf own active callIn
+  unfolding rule firstOf own active callIn callAnswer
   call-answer len = simp (merge, or-assoc)
 
   pub call-joined : (len : ℕ) → ruled s (Call v mode len) ≡ vpOutcome s (v .0) (callIn (scopeOf s (v .0)) (vp s (v .0)) (v .0) mode len)
@@ -33,7 +33,7 @@ module _ (s : State) (v : Processor) (mode : ℕ) where
   ret-joined len = joined s (Ret v mode len) (v .0) _ _ refl (ret-answer len) refl
 
   pub envp-answer : (w : Processor) (t : Level) (ip sp cr : ℕ) → answerOf s (Envp v mode w t ip sp cr) ≡ envpIn (scopeOf s (v .0)) (vp s (w .0)) (v .0) mode (w .0) (t .0) ip sp cr .answer
-  unfolding rule firstOf active maxLevel enabledOn envpIn
+  unfolding rule firstOf active maxLevel enabledOn envpIn envpAnswer
   envp-answer w t ip sp cr = simp (in-enabled, merge, or-assoc)
 
   pub envp-joined : (w : Processor) (t : Level) (ip sp cr : ℕ) → ruled s (Envp v mode w t ip sp cr) ≡ vpOutcome s (w .0) (envpIn (scopeOf s (v .0)) (vp s (w .0)) (v .0) mode (w .0) (t .0) ip sp cr)
@@ -42,7 +42,7 @@ module _ (s : State) (v : Processor) (mode : ℕ) where
 
 module _ (s : State) (w : Processor) (g : Level) (n : ℕ) where
   pub int-answer : answerOf s (Int w g n) ≡ intIn (scopeOf s (w .0)) (vp s (w .0)) (w .0) (g .0) n .answer
-  unfolding rule firstOf maxLevel enabledOn intIn
+  unfolding rule firstOf maxLevel enabledOn intIn intAnswer
   int-answer = simp (merge, or-assoc)
 
   pub int-joined : ruled s (Int w g n) ≡ vpOutcome s (w .0) (intIn (scopeOf s (w .0)) (vp s (w .0)) (w .0) (g .0) n)

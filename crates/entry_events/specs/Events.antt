@@ -20,15 +20,15 @@ use Rattle.events.specs.Scope.{VpStep, settled, unmade}
 abbrev pub badLength : ℕ → Bool
 badLength len = eqb len 0 || ltb 15 len
 
--- Events on the maker's own record p.
-abbrev pub callAnswer : Scope → VirtualProcessor → ℕ → ℕ → ℕ → Answer
-callAnswer c p v mode len = firstOf (
+-- Events on the maker's own record p. n is the next enabled level up, or 4.
+unfoldable pub callAnswer : Scope → VirtualProcessor → ℕ → ℕ → ℕ → ℕ → Answer
+callAnswer c p v mode len n = firstOf (
     Malformed when (unmade c v mode || badLength len)
-    ∷ UndefinedOpcode when (eqb mode 1 || not (bit (privateOf (c .shape) p (activeOf p) cr0) protectedBit) || not (eqb (sharedOf p rcx) 0) || eqb (nextUp (c .shape) p) 4)
-    ∷ []) (Done (nextUp (c .shape) p))
+    ∷ UndefinedOpcode when (eqb mode 1 || not (bit (privateOf (c .shape) p (activeOf p) cr0) protectedBit) || not (eqb (sharedOf p rcx) 0) || eqb n 4)
+    ∷ []) (Done n)
 
 unfoldable pub callIn : Scope → VirtualProcessor → ℕ → ℕ → ℕ → VpStep
-callIn c p v mode len = settled (callAnswer c p v mode len) (called (c .shape) p len) p
+callIn c p v mode len = settled (callAnswer c p v mode len (nextUp (c .shape) p)) (called (c .shape) p len) p
 
 abbrev pub retAnswer : Scope → VirtualProcessor → ℕ → ℕ → ℕ → Answer
 retAnswer c p v mode len = firstOf (
@@ -40,7 +40,7 @@ unfoldable pub retIn : Scope → VirtualProcessor → ℕ → ℕ → ℕ → Vp
 retIn c p v mode len = settled (retAnswer c p v mode len) (returned (c .shape) p len) p
 
 -- Events on the record p of another processor w.
-abbrev pub envpAnswer : Scope → VirtualProcessor → ℕ → ℕ → ℕ → ℕ → ℕ → Answer
+unfoldable pub envpAnswer : Scope → VirtualProcessor → ℕ → ℕ → ℕ → ℕ → ℕ → Answer
 envpAnswer c p v mode w t cr = firstOf (
     Malformed when (unmade c v mode || leb (c .processors) w || ltb 15 t || not (bit cr protectedBit))
     ∷ UndefinedOpcode when eqb mode 1
@@ -53,7 +53,7 @@ envpAnswer c p v mode w t cr = firstOf (
 unfoldable pub envpIn : Scope → VirtualProcessor → ℕ → ℕ → ℕ → ℕ → ℕ → ℕ → ℕ → VpStep
 envpIn c p v mode w t ip sp cr = settled (envpAnswer c p v mode w t cr) (started (c .shape) p t ip sp cr) p
 
-abbrev pub intAnswer : Scope → VirtualProcessor → ℕ → ℕ → ℕ → Answer
+unfoldable pub intAnswer : Scope → VirtualProcessor → ℕ → ℕ → ℕ → Answer
 intAnswer c p w g n = firstOf (
     Malformed when (leb (c .processors) w || ltb 15 g || ltb n 16 || ltb 255 n)
     ∷ InvalidLevel when ltb (top (c .shape)) g

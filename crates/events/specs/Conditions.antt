@@ -24,24 +24,20 @@ basic malformed mode = record {
   «no_interrupt» = false;
 }
 
--- The smallest number that applies, or done: first those from 5 up.
-unfoldable pub settledLate : Conditions → ℕ → Answer
-settledLate k value = firstOf (
-    AlreadyEnabled when k .«already_enabled»
-    ∷ NotEnabled when k .«not_enabled»
-    ∷ WriteOnce when k .«write_once»
-    ∷ KernelOnlyExecute when k .«kernel_only»
-    ∷ TlbLocked when k .«tlb_locked»
-    ∷ NoInterrupt when k .«no_interrupt»
-    ∷ []) (Done value)
-
+-- The smallest number that applies, or done with the value.
 unfoldable pub settledBy : Conditions → ℕ → Answer
 settledBy k value = firstOf (
     Malformed when k .malformed
     ∷ UndefinedOpcode when k .undefined
     ∷ InvalidLevel when k .«invalid_level»
     ∷ NotPermitted when k .«not_permitted»
-    ∷ []) (settledLate k value)
+    ∷ AlreadyEnabled when k .«already_enabled»
+    ∷ NotEnabled when k .«not_enabled»
+    ∷ WriteOnce when k .«write_once»
+    ∷ KernelOnlyExecute when k .«kernel_only»
+    ∷ TlbLocked when k .«tlb_locked»
+    ∷ NoInterrupt when k .«no_interrupt»
+    ∷ []) (Done value)
 
 abbrev pub isDone : Answer → Bool
 isDone (Done x) = true

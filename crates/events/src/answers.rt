@@ -1,7 +1,7 @@
 // The answer of an event from its conditions: each stands for one refusal, and the smallest number that applies is given.
 ghost use mathlib.Core.Path.{_≡_};
 ghost use mathlib.Core.Bool.{true, false, cond};
-ghost use Rattle.events.specs.Conditions.{basic, settledLate, settledBy, isDone};
+ghost use Rattle.events.specs.Conditions.{basic, settledBy, isDone};
 use model::answer::Answer;
 use model::answer::Refusal;
 
@@ -37,10 +37,22 @@ pub fn basic_conditions(malformed: bool, mode: u64) -> Conditions
     }
 }
 
-// The refusal with the smallest number among those from 5 up, or done.
-fn settled_late(k: Conditions, value: u64) -> Answer
-    ensures { λ r. ⌜ r ≡ settledLate k value ⌝ }
+// The answer: the refusal with the smallest number that applies, or done with the value.
+pub fn settled(k: Conditions, value: u64) -> Answer
+    ensures { λ r. ⌜ r ≡ settledBy k value ⌝ }
 {
+    if k.malformed {
+        return Answer::Refused(Refusal::Malformed);
+    }
+    if k.undefined {
+        return Answer::Refused(Refusal::UndefinedOpcode);
+    }
+    if k.invalid_level {
+        return Answer::Refused(Refusal::InvalidLevel);
+    }
+    if k.not_permitted {
+        return Answer::Refused(Refusal::NotPermitted);
+    }
     if k.already_enabled {
         return Answer::Refused(Refusal::AlreadyEnabled);
     }
@@ -60,25 +72,6 @@ fn settled_late(k: Conditions, value: u64) -> Answer
         return Answer::Refused(Refusal::NoInterrupt);
     }
     Answer::Done(value)
-}
-
-// The answer: the refusal with the smallest number that applies, or done with the value.
-pub fn settled(k: Conditions, value: u64) -> Answer
-    ensures { λ r. ⌜ r ≡ settledBy k value ⌝ }
-{
-    if k.malformed {
-        return Answer::Refused(Refusal::Malformed);
-    }
-    if k.undefined {
-        return Answer::Refused(Refusal::UndefinedOpcode);
-    }
-    if k.invalid_level {
-        return Answer::Refused(Refusal::InvalidLevel);
-    }
-    if k.not_permitted {
-        return Answer::Refused(Refusal::NotPermitted);
-    }
-    settled_late(k, value)
 }
 
 // Is the event done?

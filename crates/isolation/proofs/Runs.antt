@@ -190,8 +190,8 @@ isolation K s t es k ws wt plain c =
       alike = sym (hide-again K E H (final s es)) ∙ ap (hide K everywhere H) al ∙ hide-again K E H (final t es);
       first = λ v l r q n o.
           let ot : enabledOn (final t es) v l ≡ true = sym (enabledOn-hide K E H (final t es) v l) ∙ sym (ap (λ q. enabledOn q v l) al) ∙ enabledOn-hide K E H (final s es) v l ∙ o in
-          sym (seen K E H (final s es) v l r (rw (a .moved .shape-kept) q) n o) ∙ ap (λ q. privateOf (shape q) (vp q v) l r) al ∙ seen K E H (final t es) v l r
-          (rw (b .moved .shape-kept, sym (shape-same K E H t), sym e, shape-same K E H s) q) n ot;
+          sym (seen K E H (final s es) v l r (rw (ap (λ f. f .1) (a .moved .frame-kept)) q) n o) ∙ ap (λ q. privateOf (shape q) (vp q v) l r) al ∙ seen K E H (final t es) v l r
+          (rw (ap (λ f. f .1) (b .moved .frame-kept), sym (shape-same K E H t), sym e, shape-same K E H s) q) n ot;
       kept = kept K s (final s es) (a .moved);
       kept′ = kept K t (final t es) (b .moved);
     }

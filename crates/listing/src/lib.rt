@@ -9,100 +9,13 @@ use model::answer::Refusal;
 use model::event::Event;
 use model::quantity::Level;
 use model::quantity::Processor;
+use request::request_of;
 
-// The processor that the level column is about: v, or w where no v is named.
+// The processor that the level column is about: v, or w where no v is named. A request has it as its maker.
 pub fn processor_of(e: Event) -> Processor
     ensures { λ r. ⌜ r ≡ processorOf e ⌝ }
 {
-    match e {
-        Event::Enpart {
-            vp,
-            mode: _,
-            target: _,
-            mbec: _,
-        } => vp,
-        Event::Envp {
-            vp,
-            mode: _,
-            on: _,
-            target: _,
-            rip: _,
-            rsp: _,
-            cr0: _,
-        } => vp,
-        Event::Call {
-            vp,
-            mode: _,
-            length: _,
-        } => vp,
-        Event::Ret {
-            vp,
-            mode: _,
-            length: _,
-        } => vp,
-        Event::Read {
-            vp,
-            mode: _,
-            page: _,
-        } => vp,
-        Event::Write {
-            vp,
-            mode: _,
-            page: _,
-            value: _,
-        } => vp,
-        Event::Fetch {
-            vp,
-            mode: _,
-            page: _,
-        } => vp,
-        Event::Protect {
-            vp,
-            mode: _,
-            page: _,
-            mask: _,
-        } => vp,
-        Event::Config {
-            vp,
-            mode: _,
-            target: _,
-            word: _,
-        } => vp,
-        Event::Secure {
-            vp,
-            mode: _,
-            target: _,
-            word: _,
-        } => vp,
-        Event::Flush { vp, mode: _ } => vp,
-        Event::Rreg {
-            vp,
-            mode: _,
-            target: _,
-            register: _,
-        } => vp,
-        Event::Wreg {
-            vp,
-            mode: _,
-            target: _,
-            register: _,
-            value: _,
-        } => vp,
-        Event::Tpr {
-            vp,
-            mode: _,
-            class: _,
-        } => vp,
-        Event::Ack { vp, mode: _ } => vp,
-        Event::Int {
-            on,
-            target: _,
-            vector: _,
-        } => on,
-        Event::Pstat { vp, mode: _ } => vp,
-        Event::Vstat { vp, mode: _ } => vp,
-        Event::Caps { vp, mode: _ } => vp,
-    }
+    request_of(e).maker
 }
 
 // The number of a refusal.

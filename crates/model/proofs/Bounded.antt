@@ -1,12 +1,12 @@
 -- Laws of the tests and searches below a bound. Assumes nothing.
-use mathlib.Core.Path.{_≡_, refl}
-use mathlib.Core.Bool.{Bool, true, false, cond}
+use mathlib.Core.Path.{_≡_, refl, sym, ap, _∙_}
+use mathlib.Core.Bool.{Bool, true, false, not, cond, _&&_, _||_, and-true, and-false, and-assoc}
 use Prim.Native.Nat.{ℕ, zero, suc, _≤_, _<_}
 use native.Mathlib.Omega.{arith}
 use lib.Dec.{eqb}
-use borrow.Author.Tests.{eqb-true, eqb-false}
+use borrow.Author.Tests.{eqb-true, eqb-false, not-true, not-false}
 use Rattle.model.specs.Bounded.{every, any, least, highest}
-use Rattle.model.proofs.Bools.{and-left, and-right, or-left, or-right, cond-holds}
+use Rattle.model.proofs.Bools.{and-left, and-right, cond-holds}
 
 -- What holds of each number below n and of n holds of each below suc n.
 below-suc : (P : ℕ → Type 0) (n i : ℕ) → (i < n → P i) → P n → i < suc n → P i
@@ -32,21 +32,36 @@ unfolding every
 every-cong zero f g h = refl
 every-cong (suc n) f g h = rw (every-cong n f g (λ i l. h i (omega arith)), h n (omega arith))
 
+-- Two tests of each number, made together and one after the other.
+pub every-and : (n : ℕ) (f g : ℕ → Bool) → every n (λ i. f i && g i) ≡ (every n f && every n g)
+unfolding every
+every-and zero f g = refl
+every-and (suc n) f g = ap (λ b. b && (f n && g n)) (every-and n f g) ∙ exchange (every n f) (every n g) (f n) (g n)
+  where
+    exchange : (a b c d : Bool) → (a && b && (c && d)) ≡ (a && c && (b && d))
+    exchange a true c d = simp (and-true, and-assoc)
+    exchange a false c d = simp and-false
+
+-- Some number passes where not every one fails: so the laws of `any` are those of `every`.
+any-every : (n : ℕ) (f : ℕ → Bool) → any n f ≡ not (every n (λ i. not (f i)))
+unfolding any every
+any-every zero f = refl
+any-every (suc n) f = ap (λ b. b || f n) (any-every n f) ∙ go (every n (λ i. not (f i))) (f n)
+  where
+    go : (a b : Bool) → (not a || b) ≡ not (a && not b)
+    go true true = refl
+    go true false = refl
+    go false b = refl
+
 -- `any` that fails: at each number, and back.
 pub any-at : (n : ℕ) (f : ℕ → Bool) → any n f ≡ false → (i : ℕ) → i < n → f i ≡ false
-unfolding any
-any-at zero f h i l = absurd (omega arith)
-any-at (suc n) f h i l = below-suc (λ j. f j ≡ false) n i (any-at n f (or-left (any n f) (f n) h) i) (or-right (any n f) (f n) h) l
+any-at n f h i l = not-true (f i) (every-at n (λ j. not (f j)) (not-false _ (sym (any-every n f) ∙ h)) i l)
 
 pub any-none : (n : ℕ) (f : ℕ → Bool) → ((i : ℕ) → i < n → f i ≡ false) → any n f ≡ false
-unfolding any
-any-none zero f h = refl
-any-none (suc n) f h = rw (any-none n f (λ i l. h i (omega arith)), h n (omega arith))
+any-none n f h = any-every n f ∙ ap not (every-all n (λ i. not (f i)) (λ i l. ap not (h i l)))
 
 pub any-cong : (n : ℕ) (f g : ℕ → Bool) → ((i : ℕ) → i < n → f i ≡ g i) → any n f ≡ any n g
-unfolding any
-any-cong zero f g h = refl
-any-cong (suc n) f g h = rw (any-cong n f g (λ i l. h i (omega arith)), h n (omega arith))
+any-cong n f g h = any-every n f ∙ ap not (every-cong n _ _ (λ i l. ap not (h i l))) ∙ sym (any-every n g)
 
 -- What `least` finds passes; if it finds nothing, it is the bound.
 pub least-le : (n : ℕ) (f : ℕ → Bool) → least n f ≤ n

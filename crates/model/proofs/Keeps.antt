@@ -1,5 +1,5 @@
 -- A step keeps a state well formed. Assumes nothing.
-use mathlib.Core.Path.{_≡_, refl, sym, _∙_}
+use mathlib.Core.Path.{_≡_, refl, sym, _∙_, ap}
 use mathlib.Core.Bool.{Bool, true, false, not, cond, _&&_, _||_, false≢true, and-false, or-true}
 use mathlib.Core.List.{List, [], _∷_}
 use mathlib.Core.Option.{Option, none, some}
@@ -346,7 +346,7 @@ pub step-keeps : StepKeeps
 unfolding wellFormed wellSized maxLevel
 step-keeps s e w =
     both (wellSized (step s e .next) && wellFormedParts (step s e .next)) (wellModed (step s e .next))
-    (both (wellSized (step s e .next)) (wellFormedParts (step s e .next)) (rw (m .processors-kept, m .shape-kept, m .pages-kept, m .lent-kept) (well-sized s w)) (parts-kept s w e))
+    (both (wellSized (step s e .next)) (wellFormedParts (step s e .next)) (rw (ap (λ f. f .0) (m .frame-kept), ap (λ f. f .1) (m .frame-kept), ap (λ f. f .2) (m .frame-kept), ap (λ f. f .3) (m .frame-kept)) (well-sized s w)) (parts-kept s w e))
     (modes-kept 4 s (step s e .next) m (well-moded s w))
   where
     m : Moved 4 s (step s e .next)

@@ -63,6 +63,10 @@ level-cases P s l j x h k = go (isLevel (shape s) j) h
     go true q = stored-cases P 4 (s .machine .levels) l j x noLevel q k
     go false q = q
 
+-- What no event changes of a state: its sizes and the host mask.
+abbrev pub frame : State → ℕ × Shape × ℕ × ℕ × ℕ
+frame s = (processors s, shape s, pages s, length (s .words), s .machine .«host_mask»)
+
 -- From c to d, contexts of level l: an enabled level stays so, the registers of a level from K up change only where it is first
 -- enabled, and CR0 bit 0 stays set.
 pub record Turned (K l : ℕ) (c d : Context) : Type 0 where
@@ -202,13 +206,9 @@ module _ (K : ℕ) where
     unfolding acknowledged
     acknowledged-turned p = setPending-turned p (activeOf p) _ 0
 
-  -- The whole state: sizes and host mask, what the levels from K up protect and how, hidden words, and each context.
+  -- The whole state: the frame, what the levels from K up protect and how, hidden words, and each context.
   pub record Moved (s t : State) : Type 0 where
-    pub processors-kept : processors t ≡ processors s
-    pub shape-kept : shape t ≡ shape s
-    pub pages-kept : pages t ≡ pages s
-    pub lent-kept : length (t .words) ≡ length (s .words)
-    pub host-kept : t .machine .«host_mask» ≡ s .machine .«host_mask»
+    pub frame-kept : frame t ≡ frame s
     pub contexts : (v l : ℕ) → Turned K l (context (shape s) (vp s v) l) (context (shape t) (vp t v) l)
     pub protections : (l : ℕ) → K ≤ l → protects t l ≡ protects s l
     pub masks : (l p : ℕ) → K ≤ l → maskOf t l p ≡ maskOf s l p
@@ -216,11 +216,7 @@ module _ (K : ℕ) where
 
   pub same-moved : (s : State) → Moved s s
   same-moved s = record {
-    processors-kept = refl;
-    shape-kept = refl;
-    pages-kept = refl;
-    lent-kept = refl;
-    host-kept = refl;
+    frame-kept = refl;
     contexts = λ v l. same-turned l _;
     protections = λ l h. refl;
     masks = λ l p h. refl;
@@ -231,7 +227,7 @@ module _ (K : ℕ) where
   pub closed-kept : (s t : State) → Moved s t → (p : ℕ) → closed K t p ≡ closed K s p
   unfolding closed
   closed-kept s t m p =
-      let host : hostMask t p ≡ hostMask s p = unfold hostMask in m .host-kept in
+      let host : hostMask t p ≡ hostMask s p = unfold hostMask in ap (λ f. f .4) (m .frame-kept) in
       rw host (ap (λ b. not (bit (hostMask s p) readBit) || b) (any-cong 4 _ _ (λ i l. go i (leb K i) refl)))
     where
       go : (i : ℕ) (b : Bool) → leb K i ≡ b → (leb K i && protects t i && not (bit (maskOf t i p) readBit)) ≡ (leb K i && protects s i && not (bit (maskOf s i p) readBit))
@@ -240,11 +236,7 @@ module _ (K : ℕ) where
 
   pub then-moved : (s t u : State) → Moved s t → Moved t u → Moved s u
   then-moved s t u a b = record {
-    processors-kept = b .processors-kept ∙ a .processors-kept;
-    shape-kept = b .shape-kept ∙ a .shape-kept;
-    pages-kept = b .pages-kept ∙ a .pages-kept;
-    lent-kept = b .lent-kept ∙ a .lent-kept;
-    host-kept = b .host-kept ∙ a .host-kept;
+    frame-kept = b .frame-kept ∙ a .frame-kept;
     contexts = λ v l. then-turned l _ _ _ (a .contexts v l) (b .contexts v l);
     protections = λ l h. b .protections l h ∙ a .protections l h;
     masks = λ l p h. b .masks l p h ∙ a .masks l p h;
@@ -254,11 +246,7 @@ module _ (K : ℕ) where
   onVp-moved : (s : State) (v : ℕ) (f : Shape → VirtualProcessor → VirtualProcessor) → TurnedAll (shape s) (vp s v) (f (shape s) (vp s v)) → Moved s (onVp s v f)
   unfolding onVp putVp processors shape pages isPage protects configOf partitionLevel maskOf wordOf
   onVp-moved s v f t = record {
-    processors-kept = refl;
-    shape-kept = refl;
-    pages-kept = refl;
-    lent-kept = refl;
-    host-kept = refl;
+    frame-kept = refl;
     contexts = λ w l. vp-cases (λ q. Turned K l (context (shape s) (vp s w) l) (context (shape s) q l)) s v w (f (shape s) (vp s v)) (same-turned l _) (λ e. rw e (t l));
     protections = λ l h. refl;
     masks = λ l q h. refl;
@@ -269,11 +257,7 @@ module _ (K : ℕ) where
   onLevel-moved : (s : State) (l : ℕ) (f : PartitionLevel → PartitionLevel) → (K ≤ l → f (partitionLevel s l) .config ≡ partitionLevel s l .config) → Moved s (onLevel s l f)
   unfolding onLevel putLevel processors shape pages isPage isProcessor vp protects configOf maskOf wordOf
   onLevel-moved s l f h = record {
-    processors-kept = refl;
-    shape-kept = refl;
-    pages-kept = refl;
-    lent-kept = refl;
-    host-kept = refl;
+    frame-kept = refl;
     contexts = λ w l. same-turned l _;
     protections = λ j i. level-cases (λ y. turnsOn (cond (eqb j 0) 0 (y .config)) ≡ turnsOn (cond (eqb j 0) 0 (partitionLevel s j .config))) s l j _ refl (λ e. rw (e, h (omega arith)));
     masks = λ j q i. refl;
@@ -284,11 +268,7 @@ module _ (K : ℕ) where
   masks-moved : (s : State) (ks : List ℕ) → ((j q : ℕ) → K ≤ j → j < 4 → numberAt 256 ks (4 * q + j) ≡ numberAt 256 (s .machine .masks) (4 * q + j)) → Moved s (putMasks s ks)
   unfolding putMasks processors shape pages isPage isProcessor isLevel vp protects configOf partitionLevel maskOf wordOf
   masks-moved s ks h = record {
-    processors-kept = refl;
-    shape-kept = refl;
-    pages-kept = refl;
-    lent-kept = refl;
-    host-kept = refl;
+    frame-kept = refl;
     contexts = λ w l. same-turned l _;
     protections = λ j i. refl;
     masks = λ j q i. go j q i (ltb 0 j && isLevel (shape s) j && isPage s q) refl;
@@ -327,11 +307,7 @@ module _ (K : ℕ) where
   setWord-moved : (s : State) (p x : ℕ) → closed K s p ≡ false → Moved s (setWord s p x)
   unfolding setWord processors shape pages isPage isProcessor vp protects configOf partitionLevel maskOf wordOf
   setWord-moved s p x h = record {
-    processors-kept = refl;
-    shape-kept = refl;
-    pages-kept = refl;
-    lent-kept = length-set (s .words) p x;
-    host-kept = refl;
+    frame-kept = rw (length-set (s .words) p x);
     contexts = λ w l. same-turned l _;
     protections = λ l h. refl;
     masks = λ j q i. refl;

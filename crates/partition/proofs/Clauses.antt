@@ -1,23 +1,14 @@
 -- The clauses of a well-formed level that speak of masks: a mask is tested once for both, that it is valid and, where the level is
 -- strict, that it has not KMX and no UMX. Assumes nothing.
-use mathlib.Core.Path.{_≡_, refl, sym, ap, _∙_}
+use mathlib.Core.Path.{_≡_, sym, ap, _∙_}
 use mathlib.Core.Bool.{Bool, true, false, not, _&&_, and-true, and-false, and-assoc, or-true, or-and-distrib-left}
 use mathlib.Core.List.{[], _∷_}
 use Prim.Native.Nat.{ℕ, zero, suc}
+use Rattle.model.proofs.Bounded.{every-and}
 use Rattle.model.specs.Bounded.{every, allOf}
 use Rattle.model.specs.Masks.{validMask, kernelOnly}
 use Rattle.model.specs.WellFormed.{_implies_}
 use Rattle.partition.specs.Parts.{maskPasses}
-
--- Two tests of each number below n, made together and one after the other.
-every-and : (n : ℕ) (f g : ℕ → Bool) → every n (λ i. f i && g i) ≡ (every n f && every n g)
-unfolding every
-every-and zero f g = refl
-every-and (suc n) f g = ap (λ b. b && (f n && g n)) (every-and n f g) ∙ exchange (every n f) (every n g) (f n) (g n)
-  where
-    exchange : (a b c d : Bool) → (a && b && (c && d)) ≡ (a && c && (b && d))
-    exchange a true c d = simp (and-true, and-assoc)
-    exchange a false c d = simp and-false
 
 -- A test that is made only where the level is strict.
 every-strict : (strict : Bool) (n : ℕ) (f : ℕ → Bool) → every n (λ i. strict implies f i) ≡ (strict implies every n f)

@@ -1,5 +1,6 @@
 // The secure configuration that a level holds for each lower level (01, the events secure and ret): bit 0 MBEC, bit 1 TLB lock.
 ghost use mathlib.Core.Path.{_≡_};
+ghost use Prim.Native.Nat.{_<_};
 ghost use Rattle.word.specs.Field.{put, bit};
 ghost use Rattle.model.specs.Bounded.{bits, any};
 ghost use Rattle.model.specs.State.{secureOf, mbecBit, lockBit};
@@ -64,11 +65,9 @@ fn without_lock(word: u64) -> u64
 
 // Clears level t's lock in the configuration of level l.
 fn clear_lock(z: Shape, p: &mut Record, t: u64, l: u64)
+    requires { ⌜ l < 4 ⌝ }
     ensures { λ _. ⌜ vpOf (now (p .exit)) ≡ lockCleared z (vpOf (now (p .entry))) t l ⌝ }
 {
-    if l >= 4 {
-        return;
-    }
     let word = level_word(z, p, t, 18 + l);
     set_level_word(z, p, t, 18 + l, without_lock(word));
 }

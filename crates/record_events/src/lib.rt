@@ -3,11 +3,13 @@
 // smallest number is given, and only an event that is done changes the record.
 ghost use mathlib.Core.Path.{_≡_};
 ghost use Rattle.processor.specs.Record.{vpOf};
-ghost use Rattle.record_events.specs.Events.{secureIn, rregIn, wregIn, tprIn, ackIn};
+ghost use Rattle.record_events.specs.Events.{secureAnswer, secureIn, registerAnswer, rregIn, wregIn, tprAnswer, tprIn, ackAnswer, ackIn};
+use events::answers::basic_conditions;
+use events::answers::is_done;
+use events::answers::settled;
 use events::scope::Scope;
 use events::scope::is_unmade;
 use model::answer::Answer;
-use model::answer::Refusal;
 use model::quantity::Level;
 use model::quantity::Processor;
 use model::set::in_set;
@@ -26,54 +28,48 @@ use word::field::has_bit;
 
 // secure: 1 if a reserved bit of the word is set; 3; 4 if l >= actor; 6 if l is not enabled on the processor, or if bit 0 is set
 // and the partition has no MBEC for the actor.
-pub fn secure(c: Scope, p: &mut Record, v: Processor, mode: u64, l: Level, word: u64) -> Answer
-    ensures { λ r. ⌜ record { answer = r; vp = vpOf (now (p .exit)) } ≡ secureIn c (vpOf (now (p .entry))) (v .0) mode (l .0) word ⌝ }
+fn secure_answer(c: Scope, p: &Record, v: Processor, mode: u64, l: Level, word: u64) -> Answer
+    ensures { λ r. ⌜ r ≡ secureAnswer c (vpOf (now (p .entry))) (v .0) mode (l .0) word ⌝ }
 {
     let actor = active_of(p);
     let malformed = is_unmade(c, v, mode) | (15 < l.0) | secure_reserved_set(word);
-    if malformed {
-        return Answer::Refused(Refusal::Malformed);
-    }
-    if mode == 1 {
-        return Answer::Refused(Refusal::UndefinedOpcode);
-    }
-    if c.shape.max_level.0 < l.0 {
-        return Answer::Refused(Refusal::InvalidLevel);
-    }
-    if actor <= l.0 {
-        return Answer::Refused(Refusal::NotPermitted);
-    }
-    let enabled = enabled_at(c.shape, p, l.0);
-    let disabled = !enabled | (has_bit(word, 0) & !in_set(c.mbec, actor));
-    if disabled {
-        return Answer::Refused(Refusal::NotEnabled);
-    }
-    set_secure(c.shape, p, actor, l.0, word);
-    Answer::Done(0)
+    let mut k = basic_conditions(malformed, mode);
+    k.invalid_level = c.shape.max_level.0 < l.0;
+    k.not_permitted = actor <= l.0;
+    k.not_enabled = !enabled_at(c.shape, p, l.0) | (has_bit(word, 0) & !in_set(c.mbec, actor));
+    settled(k, 0)
 }
 
-// rreg: 1 for a register above 31; 3; 4 if g > actor; 6 if g is not enabled on the processor. The value is the register.
+// secure: the actor's word for level l is set.
+pub fn secure(c: Scope, p: &mut Record, v: Processor, mode: u64, l: Level, word: u64) -> Answer
+    ensures { λ r. ⌜ record { answer = r; vp = vpOf (now (p .exit)) } ≡ secureIn c (vpOf (now (p .entry))) (v .0) mode (l .0) word ⌝ }
+{
+    let answer = secure_answer(c, p, v, mode, l, word);
+    if is_done(answer) {
+        let actor = active_of(p);
+        set_secure(c.shape, p, actor, l.0, word);
+    }
+    answer
+}
+
+// A register of level g is read or written: 3; 4 if g > actor; 6 if g is not enabled on the processor.
+fn register_answer(c: Scope, p: &Record, mode: u64, g: Level, malformed: bool, value: u64) -> Answer
+    ensures { λ r. ⌜ r ≡ registerAnswer c (vpOf (now (p .entry))) mode (g .0) malformed value ⌝ }
+{
+    let mut k = basic_conditions(malformed, mode);
+    k.invalid_level = c.shape.max_level.0 < g.0;
+    k.not_permitted = active_of(p) < g.0;
+    k.not_enabled = !enabled_at(c.shape, p, g.0);
+    settled(k, value)
+}
+
+// rreg: 1 for a register above 31. The value is the register.
 pub fn rreg(c: Scope, p: &Record, v: Processor, mode: u64, g: Level, register: u64) -> Answer
     ensures { λ r. ⌜ r ≡ rregIn c (vpOf (now (p .entry))) (v .0) mode (g .0) register ⌝ }
 {
-    let actor = active_of(p);
     let malformed = is_unmade(c, v, mode) | (15 < g.0) | (31 < register);
-    if malformed {
-        return Answer::Refused(Refusal::Malformed);
-    }
-    if mode == 1 {
-        return Answer::Refused(Refusal::UndefinedOpcode);
-    }
-    if c.shape.max_level.0 < g.0 {
-        return Answer::Refused(Refusal::InvalidLevel);
-    }
-    if actor < g.0 {
-        return Answer::Refused(Refusal::NotPermitted);
-    }
-    if !enabled_at(c.shape, p, g.0) {
-        return Answer::Refused(Refusal::NotEnabled);
-    }
-    Answer::Done(register_of(c.shape, p, g.0, register))
+    let value = register_of(c.shape, p, g.0, register);
+    register_answer(c, p, mode, g, malformed, value)
 }
 
 // wreg: refused as rreg is, and 1 for CR0 with bit 0 clear for a level above 0. The register gets the value.
@@ -88,26 +84,13 @@ pub fn wreg(
 ) -> Answer
     ensures { λ r. ⌜ record { answer = r; vp = vpOf (now (p .exit)) } ≡ wregIn c (vpOf (now (p .entry))) (v .0) mode (g .0) register value ⌝ }
 {
-    let actor = active_of(p);
     let real = (register == 3) & (0 < g.0) & !has_bit(value, 0);
     let malformed = is_unmade(c, v, mode) | (15 < g.0) | (31 < register) | real;
-    if malformed {
-        return Answer::Refused(Refusal::Malformed);
+    let answer = register_answer(c, p, mode, g, malformed, 0);
+    if is_done(answer) {
+        set_register(c.shape, p, g.0, register, value);
     }
-    if mode == 1 {
-        return Answer::Refused(Refusal::UndefinedOpcode);
-    }
-    if c.shape.max_level.0 < g.0 {
-        return Answer::Refused(Refusal::InvalidLevel);
-    }
-    if actor < g.0 {
-        return Answer::Refused(Refusal::NotPermitted);
-    }
-    if !enabled_at(c.shape, p, g.0) {
-        return Answer::Refused(Refusal::NotEnabled);
-    }
-    set_register(c.shape, p, g.0, register, value);
-    Answer::Done(0)
+    answer
 }
 
 // tpr: sets the actor's own class, one of 0 to 15.
@@ -115,34 +98,33 @@ pub fn tpr(c: Scope, p: &mut Record, v: Processor, mode: u64, class: u64) -> Ans
     ensures { λ r. ⌜ record { answer = r; vp = vpOf (now (p .exit)) } ≡ tprIn c (vpOf (now (p .entry))) (v .0) mode class ⌝ }
 {
     let malformed = is_unmade(c, v, mode) | (15 < class);
-    if malformed {
-        return Answer::Refused(Refusal::Malformed);
+    let answer = settled(basic_conditions(malformed, mode), 0);
+    if is_done(answer) {
+        let actor = active_of(p);
+        set_tpr(c.shape, p, actor, class);
     }
-    if mode == 1 {
-        return Answer::Refused(Refusal::UndefinedOpcode);
-    }
-    let actor = active_of(p);
-    set_tpr(c.shape, p, actor, class);
-    Answer::Done(0)
+    answer
 }
 
-// ack: takes the highest ready vector of the actor, 13 if there is none or RFLAGS bit 9 is clear. The value is the vector.
+// ack: 13 if no vector is ready or RFLAGS bit 9 is clear. The value is the highest ready vector.
+fn ack_answer(c: Scope, p: &Record, v: Processor, mode: u64, vector: u64) -> Answer
+    ensures { λ r. ⌜ r ≡ ackAnswer c (vpOf (now (p .entry))) (v .0) mode vector ⌝ }
+{
+    let open = has_bit(private_of(c.shape, p, active_of(p), 2), 9);
+    let mut k = basic_conditions(is_unmade(c, v, mode), mode);
+    k.no_interrupt = (vector == 0) | !open;
+    settled(k, vector)
+}
+
+// ack: the actor takes its highest ready vector, which is pending no more.
 pub fn ack(c: Scope, p: &mut Record, v: Processor, mode: u64) -> Answer
     ensures { λ r. ⌜ record { answer = r; vp = vpOf (now (p .exit)) } ≡ ackIn c (vpOf (now (p .entry))) (v .0) mode ⌝ }
 {
-    if is_unmade(c, v, mode) {
-        return Answer::Refused(Refusal::Malformed);
-    }
-    if mode == 1 {
-        return Answer::Refused(Refusal::UndefinedOpcode);
-    }
     let actor = active_of(p);
     let vector = highest_ready(c.shape, p, actor);
-    let open = has_bit(private_of(c.shape, p, actor, 2), 9);
-    let none = (vector == 0) | !open;
-    if none {
-        return Answer::Refused(Refusal::NoInterrupt);
+    let answer = ack_answer(c, p, v, mode, vector);
+    if is_done(answer) {
+        set_pending(c.shape, p, actor, vector, 0);
     }
-    set_pending(c.shape, p, actor, vector, 0);
-    Answer::Done(vector)
+    answer
 }

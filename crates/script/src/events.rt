@@ -11,134 +11,86 @@ use model::quantity::Processor;
 pub fn event(word: Word, values: &[u64; 7]) -> Event
     ensures { λ r. ⌜ r ≡ eventOf word (now (values .entry)) ⌝ }
 {
-    let first = values[0];
+    let vp = Processor(values[0]);
     let second = values[1];
     let third = values[2];
     let fourth = values[3];
     let fifth = values[4];
-    let sixth = values[5];
-    let seventh = values[6];
+    let rsp = values[5];
+    let cr0 = values[6];
+    let mode = second;
+    let target = Level(third);
+    let page = Page(third);
+    let length = third;
+    let class = third;
     match word {
-        // enpart v mode t mbec
         Word::Enpart => Event::Enpart {
-            vp: Processor(first),
-            mode: second,
-            target: Level(third),
+            vp,
+            mode,
+            target,
             mbec: fourth,
         },
-        // envp v mode w t rip rsp cr0
         Word::Envp => Event::Envp {
-            vp: Processor(first),
-            mode: second,
+            vp,
+            mode,
             on: Processor(third),
             target: Level(fourth),
             rip: fifth,
-            rsp: sixth,
-            cr0: seventh,
+            rsp,
+            cr0,
         },
-        // call v mode len
-        Word::Call => Event::Call {
-            vp: Processor(first),
-            mode: second,
-            length: third,
-        },
-        // ret v mode len
-        Word::Ret => Event::Ret {
-            vp: Processor(first),
-            mode: second,
-            length: third,
-        },
-        // read v mode p
-        Word::Read => Event::Read {
-            vp: Processor(first),
-            mode: second,
-            page: Page(third),
-        },
-        // write v mode p x
+        Word::Call => Event::Call { vp, mode, length },
+        Word::Ret => Event::Ret { vp, mode, length },
+        Word::Read => Event::Read { vp, mode, page },
         Word::Write => Event::Write {
-            vp: Processor(first),
-            mode: second,
-            page: Page(third),
+            vp,
+            mode,
+            page,
             value: fourth,
         },
-        // fetch v mode p
-        Word::Fetch => Event::Fetch {
-            vp: Processor(first),
-            mode: second,
-            page: Page(third),
-        },
-        // protect v mode p mask
+        Word::Fetch => Event::Fetch { vp, mode, page },
         Word::Protect => Event::Protect {
-            vp: Processor(first),
-            mode: second,
-            page: Page(third),
+            vp,
+            mode,
+            page,
             mask: fourth,
         },
-        // config v mode g word
         Word::Config => Event::Config {
-            vp: Processor(first),
-            mode: second,
-            target: Level(third),
+            vp,
+            mode,
+            target,
             word: fourth,
         },
-        // secure v mode l word
         Word::Secure => Event::Secure {
-            vp: Processor(first),
-            mode: second,
-            target: Level(third),
+            vp,
+            mode,
+            target,
             word: fourth,
         },
-        // flush v mode
-        Word::Flush => Event::Flush {
-            vp: Processor(first),
-            mode: second,
-        },
-        // rreg v mode g r
+        Word::Flush => Event::Flush { vp, mode },
         Word::Rreg => Event::Rreg {
-            vp: Processor(first),
-            mode: second,
-            target: Level(third),
+            vp,
+            mode,
+            target,
             register: fourth,
         },
-        // wreg v mode g r x
         Word::Wreg => Event::Wreg {
-            vp: Processor(first),
-            mode: second,
-            target: Level(third),
+            vp,
+            mode,
+            target,
             register: fourth,
             value: fifth,
         },
-        // tpr v mode class
-        Word::Tpr => Event::Tpr {
-            vp: Processor(first),
-            mode: second,
-            class: third,
-        },
-        // ack v mode
-        Word::Ack => Event::Ack {
-            vp: Processor(first),
-            mode: second,
-        },
+        Word::Tpr => Event::Tpr { vp, mode, class },
+        Word::Ack => Event::Ack { vp, mode },
         // int w g vector
         Word::Int => Event::Int {
-            on: Processor(first),
+            on: vp,
             target: Level(second),
             vector: third,
         },
-        // pstat v mode
-        Word::Pstat => Event::Pstat {
-            vp: Processor(first),
-            mode: second,
-        },
-        // vstat v mode
-        Word::Vstat => Event::Vstat {
-            vp: Processor(first),
-            mode: second,
-        },
-        // caps v mode
-        Word::Caps => Event::Caps {
-            vp: Processor(first),
-            mode: second,
-        },
+        Word::Pstat => Event::Pstat { vp, mode },
+        Word::Vstat => Event::Vstat { vp, mode },
+        Word::Caps => Event::Caps { vp, mode },
     }
 }

@@ -1,11 +1,12 @@
 -- The clauses of a well-formed state, place by place, are the model's. Assumes nothing.
-use mathlib.Core.Path.{_≡_, refl, sym, ap, _∙_}
+use mathlib.Core.Path.{_≡_, refl, sym, ap}
 use mathlib.Core.Bool.{Bool, true, false, not, cond, _&&_, _||_, and-true, and-false, and-assoc}
 use mathlib.Core.List.{List}
-use Prim.Native.Nat.{ℕ, zero, suc}
+use Prim.Native.Nat.{ℕ}
 use lib.Dec.{ltb}
 use lib.ListN.{getD, length}
 use Rattle.word.specs.Field.{bit}
+use Rattle.model.proofs.Bounded.{every-and}
 use Rattle.model.proofs.Sets.{bit-bits}
 use Rattle.model.specs.declared.machine.Context.{Context}
 use Rattle.model.specs.declared.machine.Machine.{Machine}
@@ -49,16 +50,6 @@ empty-off z l e = go (isLevel z l)
 empty-moded : (z : Shape) → modedVp z noVp ≡ true
 unfolding modedVp every
 empty-moded z = rw (empty-off z 1 refl, empty-off z 2 refl, empty-off z 3 refl)
-
--- Two tests of each number below n.
-every-and : (n : ℕ) (f g : ℕ → Bool) → every n (λ i. f i && g i) ≡ (every n f && every n g)
-unfolding every
-every-and zero f g = refl
-every-and (suc n) f g = ap (λ b. b && (f n && g n)) (every-and n f g) ∙ exchange (every n f) (every n g) (f n) (g n)
-  where
-    exchange : (a b c d : Bool) → (a && b && (c && d)) ≡ (a && c && (b && d))
-    exchange a true c d = simp (and-true, and-assoc)
-    exchange a false c d = simp and-false
 
 module _ (s : State) where
   -- The sets of the partition's levels.

@@ -30,12 +30,6 @@ returns c =
 mul-limit : tie.Need-mul-limit Inv-loop μ-loop
 mul-limit c = omega (arith, pow-le-pow-right {n = 10} (omega arith) {i = c .before .before .loop .count} {j = 18} (omega arith))
 
-add-count : tie.Need-add-count Inv-loop μ-loop
-add-count c = search needs
-
-loop-less : tie.Need-loop-less Inv-loop μ-loop
-loop-less c = search needs
-
 loop-again : tie.Need-loop-again Inv-loop μ-loop
 loop-again c =
     let l = c .before .before .loop in
@@ -50,15 +44,4 @@ returns-2 : tie.Need-returns-2 Inv-loop μ-loop
 returns-2 c = omega (arith, few-digits (c .before .loop .count) (c .before .before .args .value) (omega arith) (omega arith))
 
 pub digit-count-spec : {M : Type 1} → statement M
-digit-count-spec =
-    tie.close
-    (tie.spec
-    Inv-loop
-    μ-loop
-    loop-holds
-    returns
-    mul-limit
-    add-count
-    loop-less
-    loop-again
-    returns-2)
+digit-count-spec = tie.close (tie.spec Inv-loop μ-loop loop-holds returns mul-limit (λ c. search needs) (λ c. search needs) loop-again returns-2)

@@ -7,15 +7,6 @@ use Rattle.decimal.proofs.Reading.{digit-byte, extended-in, extended-ou
 use Rattle.decimal.proofs.extend.Statement.{statement}
 use Rattle.decimal.proofs.extend.Tie as tie
 
-digit-requires : tie.Need-digit-requires
-digit-requires c κs = search needs
-
-enum-known-last : tie.Need-enum-known-last
-enum-known-last c = search needs
-
-enum-told : tie.Need-enum-told
-enum-told c = search needs
-
 returns : tie.Need-returns
 returns c = rw (← (c .before .before .digit .ensures), c .enum-told .given .1)
 
@@ -24,9 +15,6 @@ returns-2 c =
     let found = c .before .before in
     let a = found .before .before .before .args in
     extended-zero (a .value) (a .byte) _ (found .before .before .digit .ensures) (found .last .given .1) (omega arith)
-
-mul-t7 : tie.Need-mul-t7
-mul-t7 c = search needs
 
 add-t8 : tie.Need-add-t8
 add-t8 c =
@@ -53,12 +41,6 @@ returns-5 c =
     let a = found .before .before .before .args in
     extended-out (a .value) (a .byte) _ (found .before .before .digit .ensures) (found .last .given .1) (omega arith) (omega arith)
 
-mul-t6 : tie.Need-mul-t6
-mul-t6 c = search needs
-
-add-t9 : tie.Need-add-t9
-add-t9 c = search needs
-
 returns-6 : tie.Need-returns-6
 returns-6 c =
     let found = c .before .before .before .before .before in
@@ -69,16 +51,5 @@ pub extend-spec : {M : Type 1} → statement M
 extend-spec =
     tie.close
     (tie.spec
-    digit-requires
-    enum-known-last
-    enum-told
-    returns
-    returns-2
-    mul-t7
-    add-t8
-    returns-3
-    returns-4
-    returns-5
-    mul-t6
-    add-t9
-    returns-6)
+    (λ c κs. search needs) (λ c. search needs) (λ c. search needs) returns returns-2 (λ c. search needs) add-t8 returns-3 returns-4
+    returns-5 (λ c. search needs) (λ c. search needs) returns-6)

@@ -19,47 +19,17 @@ abbrev μ-loop : tie.MeasureT-loop
 returns : tie.Need-returns Inv-loop μ-loop
 returns c = read-none _ (c .if1 .taken)
 
-shared-slice-read-digit : tie.Need-shared-slice-read-digit Inv-loop μ-loop
-shared-slice-read-digit c = search needs
-
-digit-requires : tie.Need-digit-requires Inv-loop μ-loop
-digit-requires c κs = search needs
-
-enum-known-first : tie.Need-enum-known-first Inv-loop μ-loop
-enum-known-first c = search needs
-
-enum-told : tie.Need-enum-told Inv-loop μ-loop
-enum-told c = search needs
-
 returns-2 : tie.Need-returns-2 Inv-loop μ-loop
 returns-2 c = sym (read-first _ (omega arith) (c .before .before .digit .ensures) (c .enum-told .given .1))
 
 loop-holds : tie.Need-loop-holds Inv-loop μ-loop
 loop-holds c = (search needs, read-first _ (omega arith) (c .before .before .before .digit .ensures) (c .before .first .given .1))
 
-shared-slice-read-extend : tie.Need-shared-slice-read-extend Inv-loop μ-loop
-shared-slice-read-extend c = search needs
-
-extend-requires : tie.Need-extend-requires Inv-loop μ-loop
-extend-requires c κs = search needs
-
-enum-known-next : tie.Need-enum-known-next Inv-loop μ-loop
-enum-known-next c = search needs
-
-enum-told-2 : tie.Need-enum-told-2 Inv-loop μ-loop
-enum-told-2 c = search needs
-
 returns-3 : tie.Need-returns-3 Inv-loop μ-loop
 returns-3 c =
     let l = c .before .before .before .before in
     let next = read-next _ _ _ (l .loop-test .taken) (c .before .before .extend .ensures) (c .enum-told2 .given .1) in
     sym (l .before .loop .inv .1 ∙ next)
-
-add-i : tie.Need-add-i Inv-loop μ-loop
-add-i c = search needs
-
-loop-less : tie.Need-loop-less Inv-loop μ-loop
-loop-less c = search needs
 
 loop-again : tie.Need-loop-again Inv-loop μ-loop
 loop-again c =
@@ -76,19 +46,5 @@ read-spec =
     (tie.spec
     Inv-loop
     μ-loop
-    returns
-    shared-slice-read-digit
-    digit-requires
-    enum-known-first
-    enum-told
-    returns-2
-    loop-holds
-    shared-slice-read-extend
-    extend-requires
-    enum-known-next
-    enum-told-2
-    returns-3
-    add-i
-    loop-less
-    loop-again
-    returns-4)
+    returns (λ c. search needs) (λ c κs. search needs) (λ c. search needs) (λ c. search needs) returns-2 loop-holds (λ c. search needs)
+    (λ c κs. search needs) (λ c. search needs) (λ c. search needs) returns-3 (λ c. search needs) (λ c. search needs) loop-again returns-4)

@@ -17,38 +17,17 @@ Inv-loop out₀ at value count end i₀ rest₀ out i rest = Writing out₀ at v
 abbrev μ-loop : tie.MeasureT-loop
 μ-loop out₀ at value count end i₀ rest₀ out i rest = rest
 
-digit-count-requires : tie.Need-digit-count-requires Inv-loop μ-loop
-digit-count-requires c κs = search needs
-
 returns : tie.Need-returns Inv-loop μ-loop
 returns c = (sym (after-no-room _ _ _ (omega arith)), sym (with-no-room _ _ _ (omega arith)))
 
-sub-if2 : tie.Need-sub-if2 Inv-loop μ-loop
-sub-if2 c = search needs
-
 returns-2 : tie.Need-returns-2 Inv-loop μ-loop
 returns-2 c = (sym (after-no-room _ _ _ (omega arith)), sym (with-no-room _ _ _ (omega arith)))
-
-add-end : tie.Need-add-end Inv-loop μ-loop
-add-end c = search needs
 
 loop-holds : tie.Need-loop-holds Inv-loop μ-loop
 loop-holds c = record { text = []; stored = refl; place = omega arith; whole = refl; fits = omega arith }
 
 sub-i : tie.Need-sub-i Inv-loop μ-loop
 sub-i c = omega (arith, place-left (c .loop .inv))
-
-mul-out : tie.Need-mul-out Inv-loop μ-loop
-mul-out c = search needs
-
-sub-out : tie.Need-sub-out Inv-loop μ-loop
-sub-out c = search needs
-
-cast-out : tie.Need-cast-out Inv-loop μ-loop
-cast-out c = search needs
-
-add-out : tie.Need-add-out Inv-loop μ-loop
-add-out c = search needs
 
 slice-write-out : tie.Need-slice-write-out Inv-loop μ-loop
 slice-write-out c = omega (arith, place-left (c .loop .inv))
@@ -63,9 +42,6 @@ returns-3 c =
       rw (above-tens (c .before .loop .rest)) (text-put (c .before .loop .inv) (c .if3 .taken) ∙ sym (with-room _ _ _ (omega arith))),
     )
 
-loop-less : tie.Need-loop-less Inv-loop μ-loop
-loop-less c = search needs
-
 loop-again : tie.Need-loop-again Inv-loop μ-loop
 loop-again c = rw (above-tens (c .before .loop .rest)) (digit-put (c .before .loop .inv) (c .if3 .left))
 
@@ -75,19 +51,5 @@ write-long-spec =
     (tie.spec
     Inv-loop
     μ-loop
-    digit-count-requires
-    returns
-    sub-if2
-    returns-2
-    add-end
-    loop-holds
-    sub-i
-    mul-out
-    sub-out
-    cast-out
-    add-out
-    slice-write-out
-    same-length
-    returns-3
-    loop-less
-    loop-again)
+    (λ c κs. search needs) returns (λ c. search needs) returns-2 (λ c. search needs) loop-holds sub-i (λ c. search needs) (λ c. search needs) (λ c. search needs) (λ c. search needs) slice-write-out
+    same-length returns-3 (λ c. search needs) loop-again)

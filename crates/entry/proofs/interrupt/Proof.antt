@@ -13,11 +13,4 @@ unfolding interrupted
 returns-2 c = rw (c .before .set-pending .ensures, ← c .before .before .before .enters .ensures, c .if1 .left)
 
 pub interrupt-spec : {M : Type 1} → statement M
-interrupt-spec =
-    tie.close
-    (tie.spec
-    (λ c κs. search needs)
-    (λ c κs. search needs)
-    (λ c κs. search needs)
-    returns
-    returns-2)
+interrupt-spec = tie.close (tie.spec (λ c κs. search needs) (λ c κs. search needs) (λ c κs. search needs) returns returns-2)

@@ -10,10 +10,4 @@ returns-2 : tie.Need-returns-2
 returns-2 c = rw (← c .before .enabled-at .ensures, c .if1 .left)
 
 pub is-waiting-spec : {M : Type 1} → statement M
-is-waiting-spec =
-    tie.close
-    (tie.spec
-    (λ c κs. search needs)
-    (λ c κs. search needs)
-    returns
-    returns-2)
+is-waiting-spec = tie.close (tie.spec (λ c κs. search needs) (λ c κs. search needs) returns returns-2)

@@ -11,11 +11,4 @@ returns-2 : tie.Need-returns-2
 returns-2 c = rw (← c .before .shared-of .ensures, ne-eqb _ _ (c .if1 .left))
 
 pub restore-spec : {M : Type 1} → statement M
-restore-spec =
-    tie.close
-    (tie.spec
-    (λ c κs. search needs)
-    (λ c κs. search needs)
-    (λ c κs. search needs)
-    returns
-    returns-2)
+restore-spec = tie.close (tie.spec (λ c κs. search needs) (λ c κs. search needs) (λ c κs. search needs) returns returns-2)

@@ -7,9 +7,4 @@ returns : tie.Need-returns
 returns c = rw (c .enter .ensures, c .before .before .advance .ensures)
 
 pub vtl-call-spec : {M : Type 1} → statement M
-vtl-call-spec =
-    tie.close
-    (tie.spec
-    (λ c κs. search needs)
-    (λ c κs. search needs)
-    returns)
+vtl-call-spec = tie.close (tie.spec (λ c κs. search needs) (λ c κs. search needs) returns)

@@ -1,4 +1,4 @@
--- `session::answer::level_on` meets its contract: by its test. Assumes nothing.
+-- `listing::level_on` meets its contract: by its test. Assumes nothing.
 use Rattle.listing.proofs.level_on.Statement.{statement}
 use Rattle.listing.proofs.level_on.Tie as tie
 

@@ -1,4 +1,4 @@
--- `session::answer::level_shown` meets its contract: by its test. Assumes nothing.
+-- `listing::level_shown` meets its contract: by its test. Assumes nothing.
 use borrow.Author.Tests.{eq-eqb, ne-eqb}
 use Rattle.listing.proofs.level_shown.Statement.{statement}
 use Rattle.listing.proofs.level_shown.Tie as tie

@@ -1,47 +1,13 @@
--- `record_events::rreg` meets its contract: the five refusals in their order, else the register is read. Assumes nothing.
-use Rattle.model.specs.Answers.{firstOf}
-use Rattle.model.specs.State.{top}
+-- `record_events::rreg` meets its contract: the value is the register. Assumes nothing.
 use Rattle.record_events.specs.Events.{rregIn}
-use borrow.Author.Tests.{eq-eqb, le-ltb, lt-ltb, ne-eqb}
 use borrow.Author.Needs.{needs}
 use Rattle.record_events.proofs.rreg.Statement.{statement}
 use Rattle.record_events.proofs.rreg.Tie as tie
 
 returns : tie.Need-returns
-unfolding rregIn firstOf top
-returns c = rw (← c .before .before .before .active-of .ensures, ← c .before .before .is-unmade .ensures, c .if1 .taken)
-
-returns-2 : tie.Need-returns-2
-unfolding rregIn firstOf top
-returns-2 c = rw (← c .before .before .before .before .active-of .ensures, ← c .before .before .before .is-unmade .ensures, c .before .if1 .left, eq-eqb _ _ (c .if2 .taken))
-
-returns-3 : tie.Need-returns-3
-unfolding rregIn firstOf top
-returns-3 c = rw (← c .before .before .before .before .before .before .before .active-of .ensures, ← c .before .before .before .before .before .before .is-unmade .ensures, c .before .before .before .before .if1 .left, ne-eqb _ _ (c .before .before .before .if2 .left), lt-ltb _ _ (c .if3 .taken))
-
-returns-4 : tie.Need-returns-4
-unfolding rregIn firstOf top
-returns-4 c = rw (← c .before .before .before .before .before .before .before .before .before .active-of .ensures, ← c .before .before .before .before .before .before .before .before .is-unmade .ensures, c .before .before .before .before .before .before .if1 .left, ne-eqb _ _ (c .before .before .before .before .before .if2 .left), le-ltb _ _ (c .before .before .if3 .left), lt-ltb _ _ (c .if4 .taken))
-
-returns-5 : tie.Need-returns-5
-unfolding rregIn firstOf top
-returns-5 c = rw (← c .before .before .before .before .before .before .before .before .before .before .before .active-of .ensures, ← c .before .before .before .before .before .before .before .before .before .before .is-unmade .ensures, c .before .before .before .before .before .before .before .before .if1 .left, ne-eqb _ _ (c .before .before .before .before .before .before .before .if2 .left), le-ltb _ _ (c .before .before .before .before .if3 .left), le-ltb _ _ (c .before .before .if4 .left), ← c .before .enabled-at .ensures, c .if5 .taken)
-
-returns-6 : tie.Need-returns-6
-unfolding rregIn firstOf top
-returns-6 c = rw (c .register-of .ensures, ← c .before .before .before .before .before .before .before .before .before .before .before .before .active-of .ensures, ← c .before .before .before .before .before .before .before .before .before .before .before .is-unmade .ensures, c .before .before .before .before .before .before .before .before .before .if1 .left, ne-eqb _ _ (c .before .before .before .before .before .before .before .before .if2 .left), le-ltb _ _ (c .before .before .before .before .before .if3 .left), le-ltb _ _ (c .before .before .before .if4 .left), ← c .before .before .enabled-at .ensures, c .before .if5 .left)
+unfolding rregIn
+returns c = rw (c .register-answer .ensures, c .before .register-of .ensures, c .before .before .before .is-unmade .ensures)
 
 pub rreg-spec : {M : Type 1} → statement M
 rreg-spec =
-    tie.close
-    (tie.spec
-    (λ c κs. search needs)
-    (λ c κs. search needs)
-    returns
-    returns-2
-    returns-3
-    returns-4
-    (λ c κs. search needs)
-    returns-5
-    (λ c κs. search needs)
-    returns-6)
+    tie.close (tie.spec (λ c κs. search needs) (λ c κs. search needs) (λ c κs. search needs) returns)

@@ -3,120 +3,32 @@ use borrow.Author.Needs.{needs}
 use Rattle.request.proofs.request_of.Statement.{statement}
 use Rattle.request.proofs.request_of.Tie as tie
 
-returns : tie.Need-returns
-returns c = rw (c .before .before .e .given .1) (c .own-levels .ensures)
-
-returns-2 : tie.Need-returns-2
-returns-2 c = rw (c .before .e2 .given .1)
-
-returns-3 : tie.Need-returns-3
-returns-3 c = rw (c .before .before .e3 .given .1) (c .own-record .ensures)
-
-returns-4 : tie.Need-returns-4
-returns-4 c = rw (c .before .before .e4 .given .1) (c .own-record2 .ensures)
-
-returns-5 : tie.Need-returns-5
-returns-5 c = rw (c .before .before .e5 .given .1) (c .own-page .ensures)
-
-returns-6 : tie.Need-returns-6
-returns-6 c = rw (c .before .before .e6 .given .1) (c .own-page2 .ensures)
-
-returns-7 : tie.Need-returns-7
-returns-7 c = rw (c .before .before .e7 .given .1) (c .own-page3 .ensures)
-
-returns-8 : tie.Need-returns-8
-returns-8 c = rw (c .before .before .e8 .given .1) (c .own-levels2 .ensures)
-
-returns-9 : tie.Need-returns-9
-returns-9 c = rw (c .before .before .e9 .given .1) (c .own-levels3 .ensures)
-
-returns-10 : tie.Need-returns-10
-returns-10 c = rw (c .before .before .e10 .given .1) (c .own-record3 .ensures)
-
-returns-11 : tie.Need-returns-11
-returns-11 c = rw (c .before .before .e11 .given .1) (c .own .ensures)
-
-returns-12 : tie.Need-returns-12
-returns-12 c = rw (c .before .before .e12 .given .1) (c .own-query .ensures)
-
-returns-13 : tie.Need-returns-13
-returns-13 c = rw (c .before .before .e13 .given .1) (c .own-record4 .ensures)
-
-returns-14 : tie.Need-returns-14
-returns-14 c = rw (c .before .before .e14 .given .1) (c .own-record5 .ensures)
-
-returns-15 : tie.Need-returns-15
-returns-15 c = rw (c .before .before .e15 .given .1) (c .own-record6 .ensures)
-
-returns-16 : tie.Need-returns-16
-returns-16 c = rw (c .before .before .e16 .given .1) (c .own-record7 .ensures)
-
-returns-17 : tie.Need-returns-17
-returns-17 c = rw (c .before .before .e17 .given .1) (c .own-query2 .ensures)
-
-returns-18 : tie.Need-returns-18
-returns-18 c = rw (c .before .before .e18 .given .1) (c .own-query3 .ensures)
-
-returns-19 : tie.Need-returns-19
-returns-19 c = rw (c .before .before .e19 .given .1) (c .own-query4 .ensures)
-
 pub request-of-spec : {M : Type 1} → statement M
 request-of-spec =
     tie.close
     (tie.spec
-    (λ c. search needs)
-    (λ c κs. tt)
-    (λ c. search needs)
-    (λ c. search needs)
-    (λ c κs. tt)
-    (λ c. search needs)
-    (λ c κs. tt)
-    (λ c. search needs)
-    (λ c κs. tt)
-    (λ c. search needs)
-    (λ c κs. tt)
-    (λ c. search needs)
-    (λ c κs. tt)
-    (λ c. search needs)
-    (λ c κs. tt)
-    (λ c. search needs)
-    (λ c κs. tt)
-    (λ c. search needs)
-    (λ c κs. tt)
-    (λ c. search needs)
-    (λ c κs. tt)
-    (λ c. search needs)
-    (λ c κs. tt)
-    (λ c. search needs)
-    (λ c κs. tt)
-    (λ c. search needs)
-    (λ c κs. tt)
-    (λ c. search needs)
-    (λ c κs. tt)
-    (λ c. search needs)
-    (λ c κs. tt)
-    (λ c. search needs)
-    (λ c κs. tt)
-    (λ c. search needs)
-    (λ c κs. tt)
-    (λ c. search needs)
-    (λ c κs. tt)
-    returns
-    returns-2
-    returns-3
-    returns-4
-    returns-5
-    returns-6
-    returns-7
-    returns-8
-    returns-9
-    returns-10
-    returns-11
-    returns-12
-    returns-13
-    returns-14
-    returns-15
-    returns-16
-    returns-17
-    returns-18
-    returns-19)
+    (λ c. search needs) (λ c κs. tt) (λ c. search needs) (λ c. search needs) (λ c κs. tt) (λ c. search needs) (λ c κs. tt)
+    (λ c. search needs) (λ c κs. tt) (λ c. search needs) (λ c κs. tt) (λ c. search needs) (λ c κs. tt) (λ c. search needs)
+    (λ c κs. tt) (λ c. search needs) (λ c κs. tt) (λ c. search needs) (λ c κs. tt) (λ c. search needs) (λ c κs. tt)
+    (λ c. search needs) (λ c κs. tt) (λ c. search needs) (λ c κs. tt) (λ c. search needs) (λ c κs. tt) (λ c. search needs)
+    (λ c κs. tt) (λ c. search needs) (λ c κs. tt) (λ c. search needs) (λ c κs. tt) (λ c. search needs) (λ c κs. tt)
+    (λ c. search needs) (λ c κs. tt)
+    (λ c. rw (c .before .before .e .given .1) (c .own-levels .ensures))
+    (λ c. rw (c .before .e2 .given .1))
+    (λ c. rw (c .before .before .e3 .given .1) (c .own-record .ensures))
+    (λ c. rw (c .before .before .e4 .given .1) (c .own-record2 .ensures))
+    (λ c. rw (c .before .before .e5 .given .1) (c .own-page .ensures))
+    (λ c. rw (c .before .before .e6 .given .1) (c .own-page2 .ensures))
+    (λ c. rw (c .before .before .e7 .given .1) (c .own-page3 .ensures))
+    (λ c. rw (c .before .before .e8 .given .1) (c .own-levels2 .ensures))
+    (λ c. rw (c .before .before .e9 .given .1) (c .own-levels3 .ensures))
+    (λ c. rw (c .before .before .e10 .given .1) (c .own-record3 .ensures))
+    (λ c. rw (c .before .before .e11 .given .1) (c .own .ensures))
+    (λ c. rw (c .before .before .e12 .given .1) (c .own-query .ensures))
+    (λ c. rw (c .before .before .e13 .given .1) (c .own-record4 .ensures))
+    (λ c. rw (c .before .before .e14 .given .1) (c .own-record5 .ensures))
+    (λ c. rw (c .before .before .e15 .given .1) (c .own-record6 .ensures))
+    (λ c. rw (c .before .before .e16 .given .1) (c .own-record7 .ensures))
+    (λ c. rw (c .before .before .e17 .given .1) (c .own-query2 .ensures))
+    (λ c. rw (c .before .before .e18 .given .1) (c .own-query3 .ensures))
+    (λ c. rw (c .before .before .e19 .given .1) (c .own-query4 .ensures)))

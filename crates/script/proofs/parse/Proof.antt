@@ -19,15 +19,6 @@ returns : tie.Need-returns
 unfolding lineEvent
 returns c = too-long Event Malformed events _ (c .if1 .taken)
 
-word-of-requires : tie.Need-word-of-requires
-word-of-requires c κs = search needs
-
-enum-known-word : tie.Need-enum-known-word
-enum-known-word c = search needs
-
-enum-told : tie.Need-enum-told
-enum-told c = search needs
-
 -- What a line of at most 256 bytes says, by the word that it begins with.
 by-word : (c : tie.After-word-of) → lineEvent (c .before .before .before .args .line .now) ≡ namedSaid (c .word-of .result) (c .before .before .before .args .line .now)
 unfolding lineEvent
@@ -74,9 +65,6 @@ returns-3 c =
     let (read, says) = said row in
     row-malformed Event Malformed (formOf (known .word .given .0 .0)) (word-found known .few) (numbersIn _) read (not-true _ (c .if2 .taken)) ∙ says
 
-event-requires : tie.Need-event-requires
-event-requires c κs = search needs
-
 returns-4 : tie.Need-returns-4
 returns-4 c =
     let row = c .before .before .before in
@@ -89,12 +77,5 @@ pub parse-spec : {M : Type 1} → statement M
 parse-spec =
     tie.close
     (tie.spec
-    returns
-    word-of-requires
-    enum-known-word
-    enum-told
-    returns-2
-    numbers-requires
-    returns-3
-    event-requires
-    returns-4)
+    returns (λ c κs. search needs) (λ c. search needs) (λ c. search needs) returns-2 numbers-requires returns-3
+    (λ c κs. search needs) returns-4)

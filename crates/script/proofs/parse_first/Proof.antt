@@ -18,12 +18,6 @@ returns : tie.Need-returns
 unfolding lineFirst
 returns c = too-long First Malformed (vsm ∷ []) _ (c .if1 .taken)
 
-slice-aggregate-begins : tie.Need-slice-aggregate-begins
-slice-aggregate-begins c = search needs
-
-begins-requires : tie.Need-begins-requires
-begins-requires c κs = search needs
-
 returns-2 : tie.Need-returns-2
 unfolding formAmong lineFirst
 returns-2 c =
@@ -49,21 +43,6 @@ returns-3 : tie.Need-returns-3
 returns-3 c =
     row-malformed First Malformed vsm (omega arith) (numbersIn _) (c .before .numbers .ensures) (not-true _ (c .if3 .taken)) ∙ says (c .before .before .before)
 
-array-read-t12 : tie.Need-array-read-t12
-array-read-t12 c = search needs
-
-array-read-t15 : tie.Need-array-read-t15
-array-read-t15 c = search needs
-
-array-read-t18 : tie.Need-array-read-t18
-array-read-t18 c = search needs
-
-array-read-t21 : tie.Need-array-read-t21
-array-read-t21 c = search needs
-
-array-read-t24 : tie.Need-array-read-t24
-array-read-t24 c = search needs
-
 returns-4 : tie.Need-returns-4
 returns-4 c =
     row-said First Malformed vsm (omega arith) (numbersIn _) (c .before .numbers .ensures) (not-false _ (c .if3 .left)) ∙ says (c .before .before .before)
@@ -72,15 +51,5 @@ pub parse-first-spec : {M : Type 1} → statement M
 parse-first-spec =
     tie.close
     (tie.spec
-    returns
-    slice-aggregate-begins
-    begins-requires
-    returns-2
-    numbers-requires
-    returns-3
-    array-read-t12
-    array-read-t15
-    array-read-t18
-    array-read-t21
-    array-read-t24
-    returns-4)
+    returns (λ c. search needs) (λ c κs. search needs) returns-2 numbers-requires returns-3 (λ c. search needs) (λ c. search needs)
+    (λ c. search needs) (λ c. search needs) (λ c. search needs) returns-4)

@@ -110,23 +110,6 @@ pub feed-spec : {M : Type 1} → statement M
 feed-spec =
     tie.close
     (tie.spec
-    (λ c κs. tt)
-    returns
-    (λ c κs. tt)
-    (λ c κs. search needs)
-    (λ c. search needs)
-    returns-2
-    (λ c κs. tt)
-    (λ c κs. tt)
-    returns-3
-    returns-4
-    slice-aggregate-keep
-    (λ c κs. tt)
-    (λ c κs. search needs)
-    (λ c κs. tt)
-    (λ c. search needs)
-    returns-5
-    add-feed-later
-    feed-later-requires-2
-    (λ c. search needs)
-    returns-6)
+    (λ c κs. tt) returns (λ c κs. tt) (λ c κs. search needs) (λ c. search needs) returns-2 (λ c κs. tt) (λ c κs. tt) returns-3
+    returns-4 slice-aggregate-keep (λ c κs. tt) (λ c κs. search needs) (λ c κs. tt) (λ c. search needs) returns-5 add-feed-later
+    feed-later-requires-2 (λ c. search needs) returns-6)

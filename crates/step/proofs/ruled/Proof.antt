@@ -126,30 +126,8 @@ pub ruled-spec : {M : Type 1} → statement M
 ruled-spec =
     tie.close
     (tie.spec
-    (λ c κs. search needs)
-    (λ c κs. search needs)
-    (λ c κs. search needs)
-    returns
-    mul-active-of
-    index-1-active-of
-    (λ c κs. search needs)
-    (λ c κs. search needs)
-    (λ c. search needs)
-    change-processor-requires
-    (λ c. search needs)
-    (λ c κs. search needs)
-    (λ c. search needs)
-    access-page-requires
-    (λ c. search needs)
-    (λ c κs. search needs)
-    (λ c κs. search needs)
-    (λ c. search needs)
-    mul-queried
-    index-1-queried
-    (λ c κs. search needs)
-    returns-2
-    returns-3
-    (λ c. search needs)
-    returns-4
-    returns-5
-    returns-6)
+    (λ c κs. search needs) (λ c κs. search needs) (λ c κs. search needs) returns mul-active-of index-1-active-of
+    (λ c κs. search needs) (λ c κs. search needs) (λ c. search needs) change-processor-requires (λ c. search needs)
+    (λ c κs. search needs) (λ c. search needs) access-page-requires (λ c. search needs) (λ c κs. search needs)
+    (λ c κs. search needs) (λ c. search needs) mul-queried index-1-queried (λ c κs. search needs) returns-2 returns-3
+    (λ c. search needs) returns-4 returns-5 returns-6)

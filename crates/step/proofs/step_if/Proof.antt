@@ -25,11 +25,4 @@ unfolding stepIf nextFor
 returns-3 c = rw (c .if1 .left)
 
 pub step-if-spec : {M : Type 1} → statement M
-step-if-spec =
-    tie.close
-    (tie.spec
-    (λ c κs. search needs)
-    (λ c. search needs)
-    returns
-    returns-2
-    returns-3)
+step-if-spec = tie.close (tie.spec (λ c κs. search needs) (λ c. search needs) returns returns-2 returns-3)

@@ -42,13 +42,10 @@ pub xalevinda-listing-spec : {M : Type 1} → statement M
 xalevinda-listing-spec =
     tie.close
     (tie.spec
-    (λ c κs. tt)
-    (λ c κs. tt)
+    (λ c κs. tt) (λ c κs. tt)
     (λ c. c .before .before .write .kept .1 .0)
     returns
     (λ c. refl)
-    (λ c κs. tt)
-    (λ c κs. tt)
+    (λ c κs. tt) (λ c κs. tt)
     (λ c. c .before .before .write3 .kept .1 .0)
-    returns-2
-    returns-3)
+    returns-2 returns-3)

@@ -1,13 +1,13 @@
 -- `enpart_answer` meets its contract: its conditions are those of the list. Assumes nothing.
 use Rattle.model.specs.Answers.{firstOf}
 use Rattle.model.specs.State.{top}
-use Rattle.events.specs.Conditions.{settledBy, settledLate}
+use Rattle.events.specs.Conditions.{settledBy}
 use Rattle.events.specs.Levels.{enpartAnswer}
 use Rattle.events.proofs.level_events.enpart_answer.Statement.{statement}
 use Rattle.events.proofs.level_events.enpart_answer.Tie as tie
 
 returns : tie.Need-returns
-unfolding enpartAnswer settledBy settledLate firstOf top
+unfolding enpartAnswer settledBy firstOf top
 returns c =
     rw (c .settled .ensures, c .before .in-set .ensures, c .before .before .before .before .basic-conditions .ensures, c .before .before .before .before .before .is-unmade .ensures)
 

@@ -1,13 +1,13 @@
 -- `protect_answer` meets its contract: its conditions are those of the list. Assumes nothing.
 use Rattle.model.specs.Answers.{firstOf}
 use Rattle.model.specs.State.{top}
-use Rattle.events.specs.Conditions.{settledBy, settledLate}
+use Rattle.events.specs.Conditions.{settledBy}
 use Rattle.events.specs.Levels.{protectAnswer}
 use Rattle.events.proofs.level_events.protect_answer.Statement.{statement}
 use Rattle.events.proofs.level_events.protect_answer.Tie as tie
 
 returns : tie.Need-returns
-unfolding protectAnswer settledBy settledLate firstOf top
+unfolding protectAnswer settledBy firstOf top
 returns c = rw (c .settled .ensures, c .before .in-set .ensures, c .before .before .kernel-only .ensures, c .before .before .before .protects-at .ensures, c .before .before .before .before .before .basic-conditions .ensures, c .before .before .before .before .before .before .valid-mask .ensures, c .before .before .before .before .before .before .before .before .before .is-unmade .ensures)
 
 pub protect-answer-spec : {M : Type 1} → statement M

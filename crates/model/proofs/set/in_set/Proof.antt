@@ -12,10 +12,4 @@ returns-2 : tie.Need-returns-2
 returns-2 c = c .has-bit .ensures
 
 pub in-set-spec : {M : Type 1} → statement M
-in-set-spec =
-    tie.close
-    (tie.spec
-    returns
-    (λ c. search needs)
-    (λ c κs. tt)
-    returns-2)
+in-set-spec = tie.close (tie.spec returns (λ c. search needs) (λ c κs. tt) returns-2)

@@ -13,11 +13,4 @@ returns c =
     (rw (c .put .ensures ∙ put-whole (a .l) 1 (getD (a .p .now) 1 0) 1 (c .before .slice-known .given 1 .fits) (omega (arith, c .before .before .before .pre))), search needs)
 
 pub enable-spec : {M : Type 1} → statement M
-enable-spec =
-    tie.close
-    (tie.spec
-    (λ c. search needs)
-    (λ c. search needs)
-    (λ c κs. search needs)
-    (λ c. search needs)
-    returns)
+enable-spec = tie.close (tie.spec (λ c. search needs) (λ c. search needs) (λ c κs. search needs) (λ c. search needs) returns)

@@ -42,15 +42,5 @@ set-row-spec =
     (tie.spec
     Inv-loop
     μ-loop
-    mul-from
-    add-from
-    loop-holds
-    (λ c. search needs)
-    (λ c. search needs)
-    add-words
-    mul-words-2
-    slice-write-words
-    (λ c. search needs)
-    (λ c. search needs)
-    loop-again
-    returns)
+    mul-from add-from loop-holds (λ c. search needs) (λ c. search needs) add-words mul-words-2 slice-write-words (λ c. search needs)
+    (λ c. search needs) loop-again returns)

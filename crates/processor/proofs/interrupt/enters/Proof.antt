@@ -9,9 +9,4 @@ unfolding enters
 returns c = rw (c .active-of .ensures, c .before .is-ready .ensures)
 
 pub enters-spec : {M : Type 1} → statement M
-enters-spec =
-    tie.close
-    (tie.spec
-    (λ c κs. search needs)
-    (λ c κs. search needs)
-    returns)
+enters-spec = tie.close (tie.spec (λ c κs. search needs) (λ c κs. search needs) returns)

@@ -10,8 +10,4 @@ unfolding isReady
 returns c = rw (c .level-word .ensures .0, tpr-read _ _ _)
 
 pub is-ready-spec : {M : Type 1} → statement M
-is-ready-spec =
-    tie.close
-    (tie.spec
-    (λ c κs. search needs)
-    returns)
+is-ready-spec = tie.close (tie.spec (λ c κs. search needs) returns)

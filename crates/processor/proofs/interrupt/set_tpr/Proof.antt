@@ -8,8 +8,4 @@ returns : tie.Need-returns
 returns c = tpr-stored _ _ _ _ _ (c .set-level-word .ensures .1) (c .set-level-word .ensures .0)
 
 pub set-tpr-spec : {M : Type 1} → statement M
-set-tpr-spec =
-    tie.close
-    (tie.spec
-    (λ c κs. search needs)
-    returns)
+set-tpr-spec = tie.close (tie.spec (λ c κs. search needs) returns)

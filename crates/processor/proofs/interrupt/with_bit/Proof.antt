@@ -10,9 +10,4 @@ returns : tie.Need-returns
 returns c = c .put .ensures ∙ put-whole _ 1 _ _ (c .before .fits .word .fits) (omega arith)
 
 pub with-bit-spec : {M : Type 1} → statement M
-with-bit-spec =
-    tie.close
-    (tie.spec
-    (λ c. search needs)
-    (λ c κs. search needs)
-    returns)
+with-bit-spec = tie.close (tie.spec (λ c. search needs) (λ c κs. search needs) returns)

@@ -11,8 +11,4 @@ unfolding activeOf vpOf
 returns c = refl
 
 pub active-of-spec : {M : Type 1} → statement M
-active-of-spec =
-    tie.close
-    (tie.spec
-    (λ c. search needs)
-    returns)
+active-of-spec = tie.close (tie.spec (λ c. search needs) returns)

@@ -8,10 +8,4 @@ returns : tie.Need-returns
 returns c = rw (c .in-set .ensures, c .before .before .is-level .ensures) (enabled-word _ _ _)
 
 pub enabled-at-spec : {M : Type 1} → statement M
-enabled-at-spec =
-    tie.close
-    (tie.spec
-    (λ c κs. search needs)
-    (λ c. search needs)
-    (λ c κs. search needs)
-    returns)
+enabled-at-spec = tie.close (tie.spec (λ c κs. search needs) (λ c. search needs) (λ c κs. search needs) returns)

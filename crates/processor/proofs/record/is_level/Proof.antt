@@ -10,7 +10,4 @@ unfolding isLevel top
 returns c = refl
 
 pub is-level-spec : {M : Type 1} → statement M
-is-level-spec =
-    tie.close
-    (tie.spec
-    returns)
+is-level-spec = tie.close (tie.spec returns)

@@ -26,12 +26,4 @@ returns-2 : tie.Need-returns-2
 returns-2 c = (rw (sym (c .before .is-level .ensures) ∙ c .if1 .left), search needs)
 
 pub level-word-spec : {M : Type 1} → statement M
-level-word-spec =
-    tie.close
-    (tie.spec
-    (λ c κs. search needs)
-    place-requires
-    mul-result
-    shared-slice-read-result
-    returns
-    returns-2)
+level-word-spec = tie.close (tie.spec (λ c κs. search needs) place-requires mul-result shared-slice-read-result returns returns-2)

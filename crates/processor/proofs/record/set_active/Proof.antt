@@ -8,8 +8,4 @@ returns : tie.Need-returns
 returns c = active-set _ _ (search needs)
 
 pub set-active-spec : {M : Type 1} → statement M
-set-active-spec =
-    tie.close
-    (tie.spec
-    (λ c. search needs)
-    returns)
+set-active-spec = tie.close (tie.spec (λ c. search needs) returns)

@@ -26,12 +26,4 @@ returns-2 : tie.Need-returns-2
 returns-2 c = (rw (sym (c .before .is-level .ensures) ∙ c .if1 .left), search needs)
 
 pub set-level-word-spec : {M : Type 1} → statement M
-set-level-word-spec =
-    tie.close
-    (tie.spec
-    (λ c κs. search needs)
-    place-requires
-    mul-words
-    slice-write-words
-    returns
-    returns-2)
+set-level-word-spec = tie.close (tie.spec (λ c κs. search needs) place-requires mul-words slice-write-words returns returns-2)

@@ -10,7 +10,4 @@ unfolding isPrivate
 returns c = refl
 
 pub is-private-spec : {M : Type 1} → statement M
-is-private-spec =
-    tie.close
-    (tie.spec
-    returns)
+is-private-spec = tie.close (tie.spec returns)

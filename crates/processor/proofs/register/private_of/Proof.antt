@@ -16,9 +16,4 @@ returns-2 : tie.Need-returns-2
 returns-2 c = c .level-word .ensures .0 ∙ private-read _ _ _ _ (c .before .if1 .left)
 
 pub private-of-spec : {M : Type 1} → statement M
-private-of-spec =
-    tie.close
-    (tie.spec
-    returns
-    (λ c κs. search needs)
-    returns-2)
+private-of-spec = tie.close (tie.spec returns (λ c κs. search needs) returns-2)

@@ -14,11 +14,4 @@ unfolding registerOf
 returns-2 c = rw (sym (c .before .before .is-private .ensures) ∙ c .before .if1 .left, c .shared-of .ensures)
 
 pub register-of-spec : {M : Type 1} → statement M
-register-of-spec =
-    tie.close
-    (tie.spec
-    (λ c κs. search needs)
-    (λ c κs. search needs)
-    returns
-    (λ c κs. search needs)
-    returns-2)
+register-of-spec = tie.close (tie.spec (λ c κs. search needs) (λ c κs. search needs) returns (λ c κs. search needs) returns-2)

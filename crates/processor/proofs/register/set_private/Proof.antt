@@ -17,9 +17,4 @@ returns-2 : tie.Need-returns-2
 returns-2 c = private-stored _ _ _ _ _ (c .set-level-word .ensures .1) _ (c .before .before .if1 .left) (c .set-level-word .ensures .0)
 
 pub set-private-spec : {M : Type 1} → statement M
-set-private-spec =
-    tie.close
-    (tie.spec
-    returns
-    (λ c κs. search needs)
-    returns-2)
+set-private-spec = tie.close (tie.spec returns (λ c κs. search needs) returns-2)

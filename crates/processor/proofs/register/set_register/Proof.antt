@@ -14,11 +14,4 @@ unfolding setRegister
 returns-2 c = rw (sym (c .before .before .before .is-private .ensures) ∙ c .before .before .if1 .left) (c .set-shared .ensures)
 
 pub set-register-spec : {M : Type 1} → statement M
-set-register-spec =
-    tie.close
-    (tie.spec
-    (λ c κs. search needs)
-    (λ c κs. search needs)
-    returns
-    (λ c κs. search needs)
-    returns-2)
+set-register-spec = tie.close (tie.spec (λ c κs. search needs) (λ c κs. search needs) returns (λ c κs. search needs) returns-2)

@@ -21,11 +21,4 @@ unfolding secureOf
 returns-3 c = rw (lt-ltb _ _ (c .before .before .if1 .left)) (c .level-word .ensures .0 ∙ held-read _ _ _ _ (c .before .if2 .left))
 
 pub secure-of-spec : {M : Type 1} → statement M
-secure-of-spec =
-    tie.close
-    (tie.spec
-    returns
-    returns-2
-    (λ c. search needs)
-    (λ c κs. search needs)
-    returns-3)
+secure-of-spec = tie.close (tie.spec returns returns-2 (λ c. search needs) (λ c κs. search needs) returns-3)

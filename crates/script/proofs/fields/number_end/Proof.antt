@@ -9,9 +9,6 @@ use Rattle.script.proofs.Places.{at-byte, at-end, end-within, past-byte
 use Rattle.script.proofs.fields.number_end.Statement.{statement}
 use Rattle.script.proofs.fields.number_end.Tie as tie
 
-add-next : tie.Need-add-next
-add-next c = search needs
-
 returns : tie.Need-returns
 returns c =
     let a = c .before .before .args in
@@ -21,9 +18,6 @@ returns c =
       ends = λ plain. omega (arith, past-byte tab (a .line .now) (a .start) (omega arith) plain, at-end tab (a .line .now) (a .start + 1) (omega arith));
     }
 
-shared-slice-read-if2 : tie.Need-shared-slice-read-if2
-shared-slice-read-if2 c = search needs
-
 returns-2 : tie.Need-returns-2
 returns-2 c =
     let a = c .before .before .before .before .args in
@@ -32,9 +26,6 @@ returns-2 c =
       within = omega arith;
       ends = λ plain. sym (past-byte tab (a .line .now) (a .start) (omega arith) plain ∙ at-byte tab (a .line .now) (a .start + 1) (omega arith) (c .if2 .taken));
     }
-
-find-byte-requires : tie.Need-find-byte-requires
-find-byte-requires c κs = search needs
 
 returns-3 : tie.Need-returns-3
 returns-3 c =
@@ -47,4 +38,4 @@ returns-3 c =
     }
 
 pub number-end-spec : {M : Type 1} → statement M
-number-end-spec = tie.close (tie.spec add-next returns shared-slice-read-if2 returns-2 find-byte-requires returns-3)
+number-end-spec = tie.close (tie.spec (λ c. search needs) returns (λ c. search needs) returns-2 (λ c κs. search needs) returns-3)

@@ -22,9 +22,6 @@ add-start c = omega (arith, c .before .loop .inv .place)
 returns : tie.Need-returns Inv-loop μ-loop
 returns c = let l = c .before in no-row (too-few (l .before .loop .inv) (c .if1 .taken) (l .loop-test .taken))
 
-number-end-requires : tie.Need-number-end-requires Inv-loop μ-loop
-number-end-requires c κs = search needs
-
 sub-read : tie.Need-sub-read Inv-loop μ-loop
 sub-read c = omega (arith, c .number-end .ensures .after)
 
@@ -34,33 +31,12 @@ part-read-start c = omega (arith, c .number-end .ensures .after, c .number-end .
 part-read-end : tie.Need-part-read-end Inv-loop μ-loop
 part-read-end c = omega (arith, c .number-end .ensures .after, c .number-end .ensures .within)
 
-read-requires : tie.Need-read-requires Inv-loop μ-loop
-read-requires c κs = search needs
-
-enum-known-value : tie.Need-enum-known-value Inv-loop μ-loop
-enum-known-value c = search needs
-
-enum-told : tie.Need-enum-told Inv-loop μ-loop
-enum-told c = search needs
-
 returns-2 : tie.Need-returns-2 Inv-loop μ-loop
 returns-2 c =
     let said = c .before .before in
     let ended = said .before .before in
     let l = ended .before .before in
     no-row (no-number (l .before .loop .inv) _ (ended .before .if1 .left) (ended .number-end .ensures) (said .read .ensures) (c .enum-told .given .1))
-
-mul-values : tie.Need-mul-values Inv-loop μ-loop
-mul-values c = search needs
-
-element-write-values : tie.Need-element-write-values Inv-loop μ-loop
-element-write-values c = search needs
-
-add-count : tie.Need-add-count Inv-loop μ-loop
-add-count c = search needs
-
-loop-less : tie.Need-loop-less Inv-loop μ-loop
-loop-less c = search needs
 
 loop-again : tie.Need-loop-again Inv-loop μ-loop
 loop-again c =
@@ -79,20 +55,5 @@ numbers-spec =
     (tie.spec
     Inv-loop
     μ-loop
-    loop-holds
-    add-start
-    returns
-    number-end-requires
-    sub-read
-    part-read-start
-    part-read-end
-    read-requires
-    enum-known-value
-    enum-told
-    returns-2
-    mul-values
-    element-write-values
-    add-count
-    loop-less
-    loop-again
-    returns-3)
+    loop-holds add-start returns (λ c κs. search needs) sub-read part-read-start part-read-end (λ c κs. search needs) (λ c. search needs) (λ c. search needs)
+    returns-2 (λ c. search needs) (λ c. search needs) (λ c. search needs) (λ c. search needs) loop-again returns-3)

@@ -9,22 +9,10 @@ use Rattle.script.proofs.Cells.{cell-length, line-length}
 use Rattle.script.proofs.listing.line_length.Statement.{statement}
 use Rattle.script.proofs.listing.line_length.Tie as tie
 
-digit-count-requires : tie.Need-digit-count-requires
-digit-count-requires c κs = search needs
-
-digit-count-requires-2 : tie.Need-digit-count-requires-2
-digit-count-requires-2 c κs = search needs
-
 add-first : tie.Need-add-first
 add-first c =
     let a = c .before .before .args in
     omega (arith, text-length (a .number), text-length (a .answer))
-
-digit-count-requires-3 : tie.Need-digit-count-requires-3
-digit-count-requires-3 c κs = search needs
-
-digit-count-requires-4 : tie.Need-digit-count-requires-4
-digit-count-requires-4 c κs = search needs
 
 add-last : tie.Need-add-last
 add-last c =
@@ -57,12 +45,5 @@ pub line-length-spec : {M : Type 1} → statement M
 line-length-spec =
     tie.close
     (tie.spec
-    digit-count-requires
-    digit-count-requires-2
-    add-first
-    digit-count-requires-3
-    digit-count-requires-4
-    add-last
-    add-result
-    add-result-2
-    returns)
+    (λ c κs. search needs) (λ c κs. search needs) add-first (λ c κs. search needs) (λ c κs. search needs) add-last add-result
+    add-result-2 returns)

@@ -13,9 +13,6 @@ use Rattle.script.proofs.Cells.{Written, cell-length, written-length, w
 use Rattle.script.proofs.listing.write_cell.Statement.{statement}
 use Rattle.script.proofs.listing.write_cell.Tie as tie
 
-write-requires : tie.Need-write-requires
-write-requires c κs = search needs
-
 -- The number was written.
 number : (c : tie.After-write)
     → let a = c .before .before .before .args in
@@ -36,9 +33,6 @@ add-result c =
     let a = c .before .before .before .before .before .args in
     omega (arith, number (c .before .before) .0, cell-length (a .value) (a .closing))
 
-same-length : tie.Need-same-length
-same-length c = search needs
-
 returns : tie.Need-returns
 unfolding cell
 returns c =
@@ -46,11 +40,4 @@ returns c =
     written-next (a .out .now) (a .at) (decimal (a .value)) (a .closing ∷ []) (number (c .before .before)) (refl, refl)
 
 pub write-cell-spec : {M : Type 1} → statement M
-write-cell-spec =
-    tie.close
-    (tie.spec
-    write-requires
-    slice-write-out
-    add-result
-    same-length
-    returns)
+write-cell-spec = tie.close (tie.spec (λ c κs. search needs) slice-write-out add-result (λ c. search needs) returns)

@@ -17,12 +17,6 @@ use Rattle.script.proofs.listing.write_line.Tie as tie
 returns : tie.Need-returns
 returns c = (sym (after-no-room _ _ _ (omega arith)), sym (with-no-room _ _ _ (omega arith)))
 
-sub-room : tie.Need-sub-room
-sub-room c = search needs
-
-line-length-requires : tie.Need-line-length-requires
-line-length-requires c κs = search needs
-
 returns-2 : tie.Need-returns-2
 returns-2 c = (sym (after-no-room _ _ _ (omega arith)), sym (with-no-room _ _ _ (omega arith)))
 
@@ -97,9 +91,6 @@ write-cell-requires-4 c κs =
       written-length (a .out .now) (a .at) (cell (a .number) tab ++ cell (a .answer) tab ++ cell (a .value) tab) (three-cells three),
     )
 
-same-length : tie.Need-same-length
-same-length c = search needs
-
 returns-3 : tie.Need-returns-3
 unfolding listingLine
 returns-3 c =
@@ -115,13 +106,5 @@ pub write-line-spec : {M : Type 1} → statement M
 write-line-spec =
     tie.close
     (tie.spec
-    returns
-    sub-room
-    line-length-requires
-    returns-2
-    write-cell-requires
-    write-cell-requires-2
-    write-cell-requires-3
-    write-cell-requires-4
-    same-length
-    returns-3)
+    returns (λ c. search needs) (λ c κs. search needs) returns-2 write-cell-requires write-cell-requires-2 write-cell-requires-3
+    write-cell-requires-4 (λ c. search needs) returns-3)

@@ -10,9 +10,6 @@ use Rattle.script.proofs.Places.{at-byte, past-byte, past-next}
 use Rattle.script.proofs.search.bytes_before.Statement.{statement}
 use Rattle.script.proofs.search.bytes_before.Tie as tie
 
-shared-slice-read-if1 : tie.Need-shared-slice-read-if1
-shared-slice-read-if1 c = search needs
-
 returns : tie.Need-returns
 returns c = let a = c .before .before .args in at-byte (a .byte) (a .bytes .now) (a .i) (omega arith) (c .if1 .taken) ∙ sym (add-zero (a .i))
 
@@ -30,29 +27,11 @@ three-passed c =
     let a = c .before .before .before .before .before .before .args in
     two-passed (c .before .before) ∙ past-next (a .byte) (a .bytes .now) (a .i + 2) (a .i + 3) (omega arith) (omega arith) (c .if3 .left)
 
-add-if2 : tie.Need-add-if2
-add-if2 c = search needs
-
-shared-slice-read-if2 : tie.Need-shared-slice-read-if2
-shared-slice-read-if2 c = search needs
-
 returns-2 : tie.Need-returns-2
 returns-2 c = let a = c .before .before .before .before .args in one-passed (c .before .before) ∙ at-byte (a .byte) (a .bytes .now) (a .i + 1) (omega arith) (c .if2 .taken)
 
-add-if3 : tie.Need-add-if3
-add-if3 c = search needs
-
-shared-slice-read-if3 : tie.Need-shared-slice-read-if3
-shared-slice-read-if3 c = search needs
-
 returns-3 : tie.Need-returns-3
 returns-3 c = let a = c .before .before .before .before .before .before .args in two-passed (c .before .before) ∙ at-byte (a .byte) (a .bytes .now) (a .i + 2) (omega arith) (c .if3 .taken)
-
-add-if4 : tie.Need-add-if4
-add-if4 c = search needs
-
-shared-slice-read-if4 : tie.Need-shared-slice-read-if4
-shared-slice-read-if4 c = search needs
 
 returns-4 : tie.Need-returns-4
 returns-4 c = let a = c .before .before .before .before .before .before .before .before .args in three-passed (c .before .before) ∙ at-byte (a .byte) (a .bytes .now) (a .i + 3) (omega arith) (c .if4 .taken)
@@ -66,15 +45,5 @@ pub bytes-before-spec : {M : Type 1} → statement M
 bytes-before-spec =
     tie.close
     (tie.spec
-    shared-slice-read-if1
-    returns
-    add-if2
-    shared-slice-read-if2
-    returns-2
-    add-if3
-    shared-slice-read-if3
-    returns-3
-    add-if4
-    shared-slice-read-if4
-    returns-4
-    returns-5)
+    (λ c. search needs) returns (λ c. search needs) (λ c. search needs) returns-2 (λ c. search needs) (λ c. search needs) returns-3
+    (λ c. search needs) (λ c. search needs) returns-4 returns-5)

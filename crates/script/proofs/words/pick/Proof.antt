@@ -5,9 +5,6 @@ use borrow.Author.Needs.{needs}
 use Rattle.script.proofs.words.pick.Statement.{statement}
 use Rattle.script.proofs.words.pick.Tie as tie
 
-begins-requires : tie.Need-begins-requires
-begins-requires c κs = search needs
-
 returns : tie.Need-returns
 returns c = rw (sym (c .before .begins .ensures) ∙ c .if1 .taken)
 
@@ -15,4 +12,4 @@ returns-2 : tie.Need-returns-2
 returns-2 c = rw (sym (c .before .begins .ensures) ∙ c .if1 .left)
 
 pub pick-spec : {M : Type 1} → statement M
-pick-spec = tie.close (tie.spec begins-requires returns returns-2)
+pick-spec = tie.close (tie.spec (λ c κs. search needs) returns returns-2)

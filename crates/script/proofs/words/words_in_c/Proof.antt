@@ -5,24 +5,6 @@ use borrow.Author.Needs.{needs}
 use Rattle.script.proofs.words.words_in_c.Statement.{statement}
 use Rattle.script.proofs.words.words_in_c.Tie as tie
 
-slice-aggregate-pick : tie.Need-slice-aggregate-pick
-slice-aggregate-pick c = search needs
-
-pick-requires : tie.Need-pick-requires
-pick-requires c κs = search needs
-
-slice-aggregate-pick-2 : tie.Need-slice-aggregate-pick-2
-slice-aggregate-pick-2 c = search needs
-
-pick-requires-2 : tie.Need-pick-requires-2
-pick-requires-2 c κs = search needs
-
-slice-aggregate-pick-3 : tie.Need-slice-aggregate-pick-3
-slice-aggregate-pick-3 c = search needs
-
-pick-requires-3 : tie.Need-pick-requires-3
-pick-requires-3 c κs = search needs
-
 returns : tie.Need-returns
 returns c = c .pick3 .ensures ∙ rw (c .before .before .pick2 .ensures, c .before .before .before .before .pick .ensures)
 
@@ -30,10 +12,5 @@ pub words-in-c-spec : {M : Type 1} → statement M
 words-in-c-spec =
     tie.close
     (tie.spec
-    slice-aggregate-pick
-    pick-requires
-    slice-aggregate-pick-2
-    pick-requires-2
-    slice-aggregate-pick-3
-    pick-requires-3
+    (λ c. search needs) (λ c κs. search needs) (λ c. search needs) (λ c κs. search needs) (λ c. search needs) (λ c κs. search needs)
     returns)

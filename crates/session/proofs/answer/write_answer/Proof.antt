@@ -22,12 +22,4 @@ returns c =
     (w .write-line .ensures .0 ∙ after-room _ _ _ room, w .write-line .ensures .1 ∙ with-room _ _ _ room)
 
 pub write-answer-spec : {M : Type 1} → statement M
-write-answer-spec =
-    tie.close
-    (tie.spec
-    (λ c κs. tt)
-    (λ c κs. tt)
-    (λ c κs. tt)
-    (λ c κs. tt)
-    (λ c. search needs)
-    returns)
+write-answer-spec = tie.close (tie.spec (λ c κs. tt) (λ c κs. tt) (λ c κs. tt) (λ c κs. tt) (λ c. search needs) returns)

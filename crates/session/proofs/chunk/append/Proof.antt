@@ -13,29 +13,11 @@ Inv-loop length₀ more line₀ at₀ i₀ line at i = Appending line₀ length�
 abbrev μ-loop : tie.MeasureT-loop
 μ-loop length₀ more line₀ at₀ i₀ line at i = length more - i
 
-at-most-requires : tie.Need-at-most-requires Inv-loop μ-loop
-at-most-requires c κs = tt
-
 loop-holds : tie.Need-loop-holds Inv-loop μ-loop
 loop-holds c = append-start _ _ _ _ (search needs) (c .at-most .ensures)
 
 returns : tie.Need-returns Inv-loop μ-loop
 returns c = append-full (c .before .before .loop .inv) (c .if1 .taken)
-
-shared-slice-read-buffer : tie.Need-shared-slice-read-buffer Inv-loop μ-loop
-shared-slice-read-buffer c = search needs
-
-slice-write-buffer : tie.Need-slice-write-buffer Inv-loop μ-loop
-slice-write-buffer c = search needs
-
-add-at : tie.Need-add-at Inv-loop μ-loop
-add-at c = search needs
-
-add-i : tie.Need-add-i Inv-loop μ-loop
-add-i c = search needs
-
-loop-less : tie.Need-loop-less Inv-loop μ-loop
-loop-less c = search needs
 
 loop-again : tie.Need-loop-again Inv-loop μ-loop
 loop-again c = let l = c .before .before in append-byte (l .before .loop .inv) (l .loop-test .taken) (c .before .if1 .left)
@@ -49,13 +31,4 @@ append-spec =
     (tie.spec
     Inv-loop
     μ-loop
-    at-most-requires
-    loop-holds
-    returns
-    shared-slice-read-buffer
-    slice-write-buffer
-    add-at
-    add-i
-    loop-less
-    loop-again
-    returns-2)
+    (λ c κs. tt) loop-holds returns (λ c. search needs) (λ c. search needs) (λ c. search needs) (λ c. search needs) (λ c. search needs) loop-again returns-2)

@@ -9,8 +9,4 @@ returns : tie.Need-returns
 returns c = c .opened .ensures .0 ∙ blank-in (c .before .args .phase) 0 _ refl
 
 pub blank-spec : {M : Type 1} → statement M
-blank-spec =
-    tie.close
-    (tie.spec
-    (λ c κs. search needs)
-    returns)
+blank-spec = tie.close (tie.spec (λ c κs. search needs) returns)

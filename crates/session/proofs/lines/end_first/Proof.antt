@@ -37,16 +37,5 @@ pub end-first-spec : {M : Type 1} → statement M
 end-first-spec =
     tie.close
     (tie.spec
-    (λ c κs. tt)
-    (λ c. search needs)
-    (λ c. search needs)
-    (λ c κs. search needs)
-    (λ c. search needs)
-    returns
-    (λ c κs. tt)
-    (λ c κs. search needs)
-    (λ c. search needs)
-    returns-2
-    begin-requires
-    (λ c. search needs)
-    returns-3)
+    (λ c κs. tt) (λ c. search needs) (λ c. search needs) (λ c κs. search needs) (λ c. search needs) returns (λ c κs. tt)
+    (λ c κs. search needs) (λ c. search needs) returns-2 begin-requires (λ c. search needs) returns-3)

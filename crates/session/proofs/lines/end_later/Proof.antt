@@ -48,18 +48,6 @@ pub end-later-spec : {M : Type 1} → statement M
 end-later-spec =
     tie.close
     (tie.spec
-    (λ c κs. search needs)
-    (λ c κs. search needs)
-    (λ c κs. search needs)
-    (λ c. search needs)
-    slice-aggregate-well-formed
-    (λ c κs. search needs)
-    (λ c κs. search needs)
-    (λ c. search needs)
-    slice-aggregate-answer-line
-    array-share-prefix-line
-    slice-aggregate-answer-line-2
-    answer-line-requires
-    (λ c κs. search needs)
-    (λ c. search needs)
-    returns)
+    (λ c κs. search needs) (λ c κs. search needs) (λ c κs. search needs) (λ c. search needs) slice-aggregate-well-formed
+    (λ c κs. search needs) (λ c κs. search needs) (λ c. search needs) slice-aggregate-answer-line array-share-prefix-line
+    slice-aggregate-answer-line-2 answer-line-requires (λ c κs. search needs) (λ c. search needs) returns)

@@ -112,31 +112,8 @@ feed-later-spec =
     (tie.spec
     Inv-loop
     μ-loop
-    (λ c κs. search needs)
-    (λ c κs. search needs)
-    (λ c. search needs)
-    slice-aggregate-well-formed
-    (λ c κs. search needs)
-    loop-holds
-    (λ c κs. search needs)
-    (λ c κs. search needs)
-    (λ c. search needs)
-    (λ c. search needs)
-    (λ c. search needs)
-    (λ c κs. search needs)
-    same-length
-    returns
-    sub-if2
-    (λ c κs. search needs)
-    same-length-2
-    returns-2
-    sub-line
-    part-line-start
-    part-line-end
-    (λ c. search needs)
-    array-borrow-prefix-words
-    slice-aggregate-answer-line
-    answer-line-requires
-    (λ c κs. search needs)
-    loop-less
+    (λ c κs. search needs) (λ c κs. search needs) (λ c. search needs) slice-aggregate-well-formed (λ c κs. search needs) loop-holds
+    (λ c κs. search needs) (λ c κs. search needs) (λ c. search needs) (λ c. search needs) (λ c. search needs) (λ c κs. search needs)
+    same-length returns sub-if2 (λ c κs. search needs) same-length-2 returns-2 sub-line part-line-start part-line-end
+    (λ c. search needs) array-borrow-prefix-words slice-aggregate-answer-line answer-line-requires (λ c κs. search needs) loop-less
     loop-again)

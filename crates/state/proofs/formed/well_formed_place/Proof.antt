@@ -8,10 +8,4 @@ unfolding place
 returns c = rw (c .well-moded-vp .ensures, c .before .well-formed-processor .ensures, c .before .before .record-of .ensures)
 
 pub well-formed-place-spec : {M : Type 1} → statement M
-well-formed-place-spec =
-    tie.close
-    (tie.spec
-    (λ c κs. tt)
-    (λ c κs. tt)
-    (λ c κs. tt)
-    returns)
+well-formed-place-spec = tie.close (tie.spec (λ c κs. tt) (λ c κs. tt) (λ c κs. tt) returns)

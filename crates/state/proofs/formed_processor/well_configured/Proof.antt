@@ -7,9 +7,4 @@ returns : tie.Need-returns
 returns c = rw (c .has-bit .ensures, c .before .take .ensures) (let a = c .before .before .args in word-configured (a .word) (a .mbec))
 
 pub well-configured-spec : {M : Type 1} → statement M
-well-configured-spec =
-    tie.close
-    (tie.spec
-    (λ c κs. tt)
-    (λ c κs. tt)
-    returns)
+well-configured-spec = tie.close (tie.spec (λ c κs. tt) (λ c κs. tt) returns)

@@ -7,7 +7,4 @@ returns : tie.Need-returns
 returns c = entered-joined _ _ _
 
 pub well-entered-spec : {M : Type 1} → statement M
-well-entered-spec =
-    tie.close
-    (tie.spec
-    returns)
+well-entered-spec = tie.close (tie.spec returns)

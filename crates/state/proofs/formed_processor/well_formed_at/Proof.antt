@@ -12,12 +12,4 @@ returns c =
     (known-formed (isLevel (a .z) (a .l)) (a .l) _ _ (a .on) (a .kept))
 
 pub well-formed-at-spec : {M : Type 1} → statement M
-well-formed-at-spec =
-    tie.close
-    (tie.spec
-    (λ c κs. tt)
-    (λ c κs. tt)
-    (λ c κs. tt)
-    (λ c κs. tt)
-    (λ c κs. tt)
-    returns)
+well-formed-at-spec = tie.close (tie.spec (λ c κs. tt) (λ c κs. tt) (λ c κs. tt) (λ c κs. tt) (λ c κs. tt) returns)

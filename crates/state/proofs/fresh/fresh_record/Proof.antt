@@ -10,8 +10,4 @@ unfolding vpOf contextIn contextOf rowOf
 returns c = refl
 
 pub fresh-record-spec : {M : Type 1} → statement M
-fresh-record-spec =
-    tie.close
-    (tie.spec
-    (λ c. search needs)
-    returns)
+fresh-record-spec = tie.close (tie.spec (λ c. search needs) returns)

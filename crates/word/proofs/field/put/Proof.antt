@@ -16,12 +16,6 @@ old-fits o k w h = mod-eq-of-lt (lt-of-le-of-lt (field-le o k w) h)
 returns : tie.Need-returns
 returns c = sym (put-past _ _ _ _ (c .before .fits .word .fits) (c .if1 .taken))
 
-shl-old : tie.Need-shl-old
-shl-old c = search needs
-
-shl-new : tie.Need-shl-new
-shl-new c = search needs
-
 sub-wrapping-add-u64 : tie.Need-sub-wrapping-add-u64
 sub-wrapping-add-u64 c =
     let p = c .before .before .before in
@@ -36,4 +30,4 @@ returns-2 c =
 pub put-spec : {M : Type 1} → statement M
 put-spec =
     tie.close
-    (tie.spec returns (λ c κs. tt) shl-old (λ c κs. tt) shl-new sub-wrapping-add-u64 (λ c κs. tt) returns-2)
+    (tie.spec returns (λ c κs. tt) (λ c. search needs) (λ c κs. tt) (λ c. search needs) sub-wrapping-add-u64 (λ c κs. tt) returns-2)

@@ -16,15 +16,9 @@ one-shifted k h = rw one-mul (mod-eq-of-lt (pow-lt h))
 returns : tie.Need-returns
 returns c = sym (field-past _ _ _ (lt-of-lt-of-le (c .before .fits .word .fits) (pow-mono (c .if1 .taken))))
 
-shr-from : tie.Need-shr-from
-shr-from c = search needs
-
 returns-2 : tie.Need-returns-2
 returns-2 c =
     sym (mod-eq-of-lt (lt-of-le-of-lt (shr-le _ _) (lt-of-lt-of-le (c .before .before .fits .word .fits) (pow-mono (c .if2 .taken)))))
-
-shl-result : tie.Need-shl-result
-shl-result c = search needs
 
 rem-result : tie.Need-rem-result
 rem-result c = rw (one-shifted _ (c .if2 .left)) (pow-pos (c .before .before .args .width))
@@ -33,4 +27,4 @@ returns-3 : tie.Need-returns-3
 returns-3 c = rw (one-shifted _ (c .if2 .left))
 
 pub take-spec : {M : Type 1} → statement M
-take-spec = tie.close (tie.spec returns shr-from returns-2 shl-result rem-result returns-3)
+take-spec = tie.close (tie.spec returns (λ c. search needs) returns-2 (λ c. search needs) rem-result returns-3)

@@ -10,9 +10,7 @@ pub code-page-offsets-spec : {M : Type 1} → statement M
 code-page-offsets-spec =
     tie.close
     (tie.spec
-    (λ c κs. tt)
-    (λ c κs. tt)
-    (λ c κs. tt)
+    (λ c κs. tt) (λ c κs. tt) (λ c κs. tt)
     (λ c. rw (c .before .match .keys1) (c .at .ensures))
     (λ c. rw (c .before .match .keys2) (c .at2 .ensures))
     (λ c. c .at3 .ensures ∙ place-past (codePageOffsets .layout) (c .before .before .args .field) (omega arith)))

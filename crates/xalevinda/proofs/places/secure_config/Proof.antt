@@ -10,9 +10,7 @@ pub secure-config-spec : {M : Type 1} → statement M
 secure-config-spec =
     tie.close
     (tie.spec
-    (λ c κs. tt)
-    (λ c κs. tt)
-    (λ c κs. tt)
+    (λ c κs. tt) (λ c κs. tt) (λ c κs. tt)
     (λ c. rw (c .before .match .keys1) (c .at .ensures))
     (λ c. rw (c .before .match .keys2) (c .at2 .ensures))
     (λ c. c .at3 .ensures ∙ place-past (secureConfig .layout) (c .before .before .args .field) (omega arith)))

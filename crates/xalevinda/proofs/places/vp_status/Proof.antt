@@ -10,10 +10,7 @@ pub vp-status-spec : {M : Type 1} → statement M
 vp-status-spec =
     tie.close
     (tie.spec
-    (λ c κs. tt)
-    (λ c κs. tt)
-    (λ c κs. tt)
-    (λ c κs. tt)
+    (λ c κs. tt) (λ c κs. tt) (λ c κs. tt) (λ c κs. tt)
     (λ c. rw (c .before .match .keys1) (c .at .ensures))
     (λ c. rw (c .before .match .keys2) (c .at2 .ensures))
     (λ c. rw (c .before .match .keys3) (c .at3 .ensures))
