@@ -3,7 +3,7 @@ use mathlib.Core.Bool.{Bool, not, cond}
 use mathlib.Core.List.{[], _∷_}
 use Prim.Native.Nat.{ℕ}
 use lib.Dec.{eqb}
-use Rattle.word.specs.Registers.{packPartitionStatus, packVpStatus, packCapabilities}
+use Rattle.word.specs.Registers.{packAs, partitionStatus, vpStatus, capabilities}
 use Rattle.model.specs.declared.answer.Answer.{Answer}
 use Rattle.model.specs.declared.answer.Answer.the-variants.{Done}
 use Rattle.model.specs.declared.answer.Refusal.the-variants.{Malformed, UndefinedOpcode, TlbLocked}
@@ -21,7 +21,7 @@ unfoldable pub statusAnswer : Scope → ℕ → ℕ → ℕ → Answer
 statusAnswer c v mode word = firstOf (Malformed when unmade c v mode ∷ UndefinedOpcode when eqb mode 1 ∷ []) (Done word)
 
 unfoldable pub partitionWord : Scope → ℕ
-partitionWord c = packPartitionStatus (record {
+partitionWord c = packAs partitionStatus (record {
   «enabled_vtl_set» = c .enabled;
   «maximum_vtl» = top (c .shape);
   «mbec_enabled_vtl_set» = c .mbec;
@@ -29,7 +29,7 @@ partitionWord c = packPartitionStatus (record {
 
 -- `mbecs` is the set of levels that have MBEC on for the actor, `on` the set of levels enabled on its processor.
 unfoldable pub processorWord : Scope → ℕ → ℕ → ℕ
-processorWord c mbecs on = packVpStatus (record {
+processorWord c mbecs on = packAs vpStatus (record {
   «active_vtl» = c .actor;
   «active_mbec_enabled» = cond (not (eqb mbecs 0)) 1 0;
   «enabled_vtl_set» = on;
@@ -37,7 +37,7 @@ processorWord c mbecs on = packVpStatus (record {
 
 -- `levels` is the set of the levels 1 to M.
 unfoldable pub capabilityWord : Scope → ℕ → ℕ
-capabilityWord c levels = packCapabilities (record {
+capabilityWord c levels = packAs capabilities (record {
   «deny_lower_vtl_startup» = 0;
   «mbec_vtl_mask» = levels;
   «dr6_shared» = cond (c .shape .«dr6_shared») 1 0;

@@ -5,7 +5,7 @@ use mathlib.Core.List.{List, [], _∷_}
 use Prim.Native.Nat.{ℕ}
 use lib.Dec.{leb, ltb, eqb}
 use Rattle.word.specs.Field.{bit}
-use Rattle.word.specs.Registers.{packPartitionStatus, packVpStatus, packCapabilities}
+use Rattle.word.specs.Registers.{packAs, partitionStatus, vpStatus, capabilities}
 use Rattle.model.specs.declared.answer.Answer.{Answer}
 use Rattle.model.specs.declared.answer.Answer.the-variants.{Intercept}
 use Rattle.model.specs.declared.answer.Refusal.the-variants.{Malformed, UndefinedOpcode, InvalidLevel, NotPermitted, AlreadyEnabled, NotEnabled, WriteOnce, KernelOnlyExecute, NoReceiver, HostDenies, TlbLocked, NoInterrupt}
@@ -211,7 +211,7 @@ abbrev pub status : State → ℕ → ℕ → ℕ → Rule
 status s v mode word = record { refusals = madeOn s v mode (kernel mode []); value = word; effect = s }
 
 abbrev pub pstat : State → ℕ → ℕ → Rule
-pstat s v mode = status s v mode (packPartitionStatus (record {
+pstat s v mode = status s v mode (packAs partitionStatus (record {
   «enabled_vtl_set» = bits 4 (λ l. enabledFor s l);
   «maximum_vtl» = maxLevel s;
   «mbec_enabled_vtl_set» = bits 4 (λ l. mbecFor s l);
@@ -219,7 +219,7 @@ pstat s v mode = status s v mode (packPartitionStatus (record {
 
 -- Processor status: active at 0, MBEC active at 4 (some higher level has it on for the active one), enabled set at 16.
 abbrev pub vstat : State → ℕ → ℕ → Rule
-vstat s v mode = status s v mode (packVpStatus (record {
+vstat s v mode = status s v mode (packAs vpStatus (record {
   «active_vtl» = active s v;
   «active_mbec_enabled» = cond (any 4 (λ t. mbecOn s v t (active s v))) 1 0;
   «enabled_vtl_set» = bits 4 (λ l. enabledOn s v l);
@@ -227,7 +227,7 @@ vstat s v mode = status s v mode (packVpStatus (record {
 
 -- Capabilities: Dr6Shared 63, MbecVtlMask from 47 (level t at 47+t, t from 1 to M), bit 46 is 0 for now.
 abbrev pub caps : State → ℕ → ℕ → Rule
-caps s v mode = status s v mode (packCapabilities (record {
+caps s v mode = status s v mode (packAs capabilities (record {
   «deny_lower_vtl_startup» = 0;
   «mbec_vtl_mask» = bits 4 (λ t. ltb 0 t && isLevel (shape s) t);
   «dr6_shared» = cond (shape s .«dr6_shared») 1 0;

@@ -4,7 +4,7 @@ use Prim.Native.Nat.{ℕ}
 use lib.Dec.{leb, eqb}
 use Rattle.word.specs.Field.{bit}
 use Rattle.word.specs.Layout.{reservedClear}
-use Rattle.word.specs.Registers.{partitionConfig, secureConfig, unpackPartitionConfig}
+use Rattle.word.specs.Registers.{partitionConfig, secureConfig, unpackAs}
 use Rattle.model.specs.State.{State, configOf}
 
 -- A mask has Read 1, Write 2, KMX 4, UMX 8.
@@ -30,10 +30,10 @@ kernelOnly k = bit k kmxBit && not (bit k umxBit)
 
 -- Of a configuration word: its default mask, whether it turns protections on, whether a reserved bit is set.
 abbrev pub defaultMask : ℕ → ℕ
-defaultMask w = unpackPartitionConfig w .«default_vtl_protection_mask»
+defaultMask w = unpackAs partitionConfig w .«default_vtl_protection_mask»
 
 abbrev pub turnsOn : ℕ → Bool
-turnsOn w = eqb (unpackPartitionConfig w .«enable_vtl_protection») 1
+turnsOn w = eqb (unpackAs partitionConfig w .«enable_vtl_protection») 1
 
 abbrev pub reservedSet : ℕ → Bool
 reservedSet w = not (reservedClear (partitionConfig .layout) w)

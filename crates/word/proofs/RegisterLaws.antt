@@ -1,5 +1,5 @@
 -- The laws of the six registers of document 001: each is a whole word, and its two round trips hold. Each is a use of the laws
--- of layouts; `packAs` and `unpackAs` at a register are its named pair, as `packVpStatus` and `unpackVpStatus`. Assumes nothing.
+-- of layouts. Assumes nothing.
 use Prim.Native.Nat.{ℕ, _^_, _<_}
 use mathlib.Core.Path.{_≡_, refl, ap, _∙_}
 use mathlib.Core.Bool.{true}
@@ -7,7 +7,6 @@ use mathlib.Core.Logic.{_↔_}
 use Rattle.word.specs.Layout.{widthOf, lowBits, unpack, reservedClear}
 use Rattle.word.specs.Registers.{Register, packAs, unpackAs}
 use Rattle.word.specs.Registers.{capabilities, partitionStatus, vpStatus, partitionConfig, secureConfig, codePageOffsets}
-use Rattle.word.specs.Registers.{packPartitionStatus, unpackCapabilities, unpackPartitionConfig}
 use Rattle.word.proofs.LayoutLaws.{unpack-pack, pack-unpack, pack-lt, pack-clear}
 
 -- What holds of a register.
@@ -56,17 +55,17 @@ code-page-offsets-whole = whole codePageOffsets refl (λ w. refl) (λ s. refl)
 
 -- Levels 0 and 1 enabled of at most 1, and MBEC at level 1, as a word.
 pub partition-status-word :
-    packPartitionStatus (record { «enabled_vtl_set» = 3; «maximum_vtl» = 1; «mbec_enabled_vtl_set» = 2 }) ≡ 2162691
+    packAs partitionStatus (record { «enabled_vtl_set» = 3; «maximum_vtl» = 1; «mbec_enabled_vtl_set» = 2 }) ≡ 2162691
 partition-status-word = refl
 
 -- The highest bit alone is Dr6Shared.
 pub capabilities-word :
-    unpackCapabilities (2 ^ 63) ≡ record { «deny_lower_vtl_startup» = 0; «mbec_vtl_mask» = 0; «dr6_shared» = 1 }
+    unpackAs capabilities (2 ^ 63) ≡ record { «deny_lower_vtl_startup» = 0; «mbec_vtl_mask» = 0; «dr6_shared» = 1 }
 capabilities-word = refl
 
 -- Bits 0 to 4, 6 and 9 are all fields but ZeroMemoryOnReset; bits 7 and 8 are passed over.
 pub partition-config-word :
-    unpackPartitionConfig 991 ≡ record {
+    unpackAs partitionConfig 991 ≡ record {
       «enable_vtl_protection» = 1;
       «default_vtl_protection_mask» = 15;
       «zero_memory_on_reset» = 0;

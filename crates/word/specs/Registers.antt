@@ -35,12 +35,6 @@ capabilities =
       structure = λ xs. record { «deny_lower_vtl_startup» = getD xs 0 0; «mbec_vtl_mask» = getD xs 1 0; «dr6_shared» = getD xs 2 0 };
     }
 
-abbrev pub packCapabilities : Capabilities → ℕ
-packCapabilities = packAs capabilities
-
-abbrev pub unpackCapabilities : ℕ → Capabilities
-unpackCapabilities = unpackAs capabilities
-
 -- HV_REGISTER_VSM_PARTITION_STATUS: EnabledVtlSet : 16; MaximumVtl : 4; MbecEnabledVtlSet : 16; ReservedZ : 28.
 abbrev pub partitionStatus : Register PartitionStatus
 partitionStatus =
@@ -50,12 +44,6 @@ partitionStatus =
       structure = λ xs. record { «enabled_vtl_set» = getD xs 0 0; «maximum_vtl» = getD xs 1 0; «mbec_enabled_vtl_set» = getD xs 2 0 };
     }
 
-abbrev pub packPartitionStatus : PartitionStatus → ℕ
-packPartitionStatus = packAs partitionStatus
-
-abbrev pub unpackPartitionStatus : ℕ → PartitionStatus
-unpackPartitionStatus = unpackAs partitionStatus
-
 -- HV_REGISTER_VSM_VP_STATUS: ActiveVtl : 4; ActiveMbecEnabled : 1; ReservedZ0 : 11; EnabledVtlSet : 16; ReservedZ1 : 32.
 abbrev pub vpStatus : Register VpStatus
 vpStatus =
@@ -64,12 +52,6 @@ vpStatus =
       values = λ s. s .«active_vtl» ∷ s .«active_mbec_enabled» ∷ s .«enabled_vtl_set» ∷ [];
       structure = λ xs. record { «active_vtl» = getD xs 0 0; «active_mbec_enabled» = getD xs 1 0; «enabled_vtl_set» = getD xs 2 0 };
     }
-
-abbrev pub packVpStatus : VpStatus → ℕ
-packVpStatus = packAs vpStatus
-
-abbrev pub unpackVpStatus : ℕ → VpStatus
-unpackVpStatus = unpackAs vpStatus
 
 -- HV_REGISTER_VSM_PARTITION_CONFIG: EnableVtlProtection : 1; DefaultVtlProtectionMask : 4; ZeroMemoryOnReset : 1;
 -- DenyLowerVtlStartup : 1; ReservedZ : 2; InterceptVpStartup : 1; ReservedZ : 54.
@@ -89,12 +71,6 @@ partitionConfig =
       };
     }
 
-abbrev pub packPartitionConfig : PartitionConfig → ℕ
-packPartitionConfig = packAs partitionConfig
-
-abbrev pub unpackPartitionConfig : ℕ → PartitionConfig
-unpackPartitionConfig = unpackAs partitionConfig
-
 -- HV_REGISTER_VSM_VP_SECURE_VTL_CONFIG: MbecEnabled : 1; TlbLocked : 1; ReservedZ : 62.
 abbrev pub secureConfig : Register SecureConfig
 secureConfig =
@@ -104,12 +80,6 @@ secureConfig =
       structure = λ xs. record { «mbec_enabled» = getD xs 0 0; «tlb_locked» = getD xs 1 0 };
     }
 
-abbrev pub packSecureConfig : SecureConfig → ℕ
-packSecureConfig = packAs secureConfig
-
-abbrev pub unpackSecureConfig : ℕ → SecureConfig
-unpackSecureConfig = unpackAs secureConfig
-
 -- HV_REGISTER_VSM_CODE_PAGE_OFFSETS: VtlCallOffset : 12; VtlReturnOffset : 12; ReservedZ : 40.
 abbrev pub codePageOffsets : Register CodePageOffsets
 codePageOffsets =
@@ -118,9 +88,3 @@ codePageOffsets =
       values = λ s. s .«vtl_call_offset» ∷ s .«vtl_return_offset» ∷ [];
       structure = λ xs. record { «vtl_call_offset» = getD xs 0 0; «vtl_return_offset» = getD xs 1 0 };
     }
-
-abbrev pub packCodePageOffsets : CodePageOffsets → ℕ
-packCodePageOffsets = packAs codePageOffsets
-
-abbrev pub unpackCodePageOffsets : ℕ → CodePageOffsets
-unpackCodePageOffsets = unpackAs codePageOffsets

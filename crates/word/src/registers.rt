@@ -2,12 +2,8 @@
 // Of a value that is packed only the low bits count, as many as its field has. Reserved bits are packed as 0 and
 // passed over. The offsets and widths in the code are those of specs/Registers.antt.
 ghost use mathlib.Core.Path.{_≡_};
-ghost use Rattle.word.specs.Registers.{packCapabilities, unpackCapabilities};
-ghost use Rattle.word.specs.Registers.{packPartitionStatus, unpackPartitionStatus};
-ghost use Rattle.word.specs.Registers.{packVpStatus, unpackVpStatus};
-ghost use Rattle.word.specs.Registers.{packPartitionConfig, unpackPartitionConfig};
-ghost use Rattle.word.specs.Registers.{packSecureConfig, unpackSecureConfig};
-ghost use Rattle.word.specs.Registers.{packCodePageOffsets, unpackCodePageOffsets};
+ghost use Rattle.word.specs.Registers.{packAs, unpackAs};
+ghost use Rattle.word.specs.Registers.{capabilities, partitionStatus, vpStatus, partitionConfig, secureConfig, codePageOffsets};
 use crate::field::put;
 use crate::field::take;
 
@@ -20,7 +16,7 @@ pub struct Capabilities {
 
 impl Capabilities {
     pub fn pack(self) -> u64
-        ensures { λ r. ⌜ r ≡ packCapabilities self ⌝ }
+        ensures { λ r. ⌜ r ≡ packAs capabilities self ⌝ }
     {
         let word = put(0, 46, 1, self.deny_lower_vtl_startup);
         let word = put(word, 47, 16, self.mbec_vtl_mask);
@@ -28,7 +24,7 @@ impl Capabilities {
     }
 
     pub fn unpack(word: u64) -> Self
-        ensures { λ r. ⌜ r ≡ unpackCapabilities word ⌝ }
+        ensures { λ r. ⌜ r ≡ unpackAs capabilities word ⌝ }
     {
         Self {
             deny_lower_vtl_startup: take(word, 46, 1),
@@ -47,7 +43,7 @@ pub struct PartitionStatus {
 
 impl PartitionStatus {
     pub fn pack(self) -> u64
-        ensures { λ r. ⌜ r ≡ packPartitionStatus self ⌝ }
+        ensures { λ r. ⌜ r ≡ packAs partitionStatus self ⌝ }
     {
         let word = put(0, 0, 16, self.enabled_vtl_set);
         let word = put(word, 16, 4, self.maximum_vtl);
@@ -55,7 +51,7 @@ impl PartitionStatus {
     }
 
     pub fn unpack(word: u64) -> Self
-        ensures { λ r. ⌜ r ≡ unpackPartitionStatus word ⌝ }
+        ensures { λ r. ⌜ r ≡ unpackAs partitionStatus word ⌝ }
     {
         Self {
             enabled_vtl_set: take(word, 0, 16),
@@ -74,7 +70,7 @@ pub struct VpStatus {
 
 impl VpStatus {
     pub fn pack(self) -> u64
-        ensures { λ r. ⌜ r ≡ packVpStatus self ⌝ }
+        ensures { λ r. ⌜ r ≡ packAs vpStatus self ⌝ }
     {
         let word = put(0, 0, 4, self.active_vtl);
         let word = put(word, 4, 1, self.active_mbec_enabled);
@@ -82,7 +78,7 @@ impl VpStatus {
     }
 
     pub fn unpack(word: u64) -> Self
-        ensures { λ r. ⌜ r ≡ unpackVpStatus word ⌝ }
+        ensures { λ r. ⌜ r ≡ unpackAs vpStatus word ⌝ }
     {
         Self {
             active_vtl: take(word, 0, 4),
@@ -103,7 +99,7 @@ pub struct PartitionConfig {
 
 impl PartitionConfig {
     pub fn pack(self) -> u64
-        ensures { λ r. ⌜ r ≡ packPartitionConfig self ⌝ }
+        ensures { λ r. ⌜ r ≡ packAs partitionConfig self ⌝ }
     {
         let word = put(0, 0, 1, self.enable_vtl_protection);
         let word = put(word, 1, 4, self.default_vtl_protection_mask);
@@ -113,7 +109,7 @@ impl PartitionConfig {
     }
 
     pub fn unpack(word: u64) -> Self
-        ensures { λ r. ⌜ r ≡ unpackPartitionConfig word ⌝ }
+        ensures { λ r. ⌜ r ≡ unpackAs partitionConfig word ⌝ }
     {
         Self {
             enable_vtl_protection: take(word, 0, 1),
@@ -133,14 +129,14 @@ pub struct SecureConfig {
 
 impl SecureConfig {
     pub fn pack(self) -> u64
-        ensures { λ r. ⌜ r ≡ packSecureConfig self ⌝ }
+        ensures { λ r. ⌜ r ≡ packAs secureConfig self ⌝ }
     {
         let word = put(0, 0, 1, self.mbec_enabled);
         put(word, 1, 1, self.tlb_locked)
     }
 
     pub fn unpack(word: u64) -> Self
-        ensures { λ r. ⌜ r ≡ unpackSecureConfig word ⌝ }
+        ensures { λ r. ⌜ r ≡ unpackAs secureConfig word ⌝ }
     {
         Self {
             mbec_enabled: take(word, 0, 1),
@@ -157,14 +153,14 @@ pub struct CodePageOffsets {
 
 impl CodePageOffsets {
     pub fn pack(self) -> u64
-        ensures { λ r. ⌜ r ≡ packCodePageOffsets self ⌝ }
+        ensures { λ r. ⌜ r ≡ packAs codePageOffsets self ⌝ }
     {
         let word = put(0, 0, 12, self.vtl_call_offset);
         put(word, 12, 12, self.vtl_return_offset)
     }
 
     pub fn unpack(word: u64) -> Self
-        ensures { λ r. ⌜ r ≡ unpackCodePageOffsets word ⌝ }
+        ensures { λ r. ⌜ r ≡ unpackAs codePageOffsets word ⌝ }
     {
         Self {
             vtl_call_offset: take(word, 0, 12),

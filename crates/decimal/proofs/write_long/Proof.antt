@@ -48,8 +48,6 @@ loop-again c = rw (above-tens (c .before .loop .rest)) (digit-put (c .before .lo
 pub write-long-spec : {M : Type 1} → statement M
 write-long-spec =
     tie.close
-    (tie.spec
-    Inv-loop
-    μ-loop
+    (tie.spec Inv-loop μ-loop
     (λ c κs. search needs) returns (λ c. search needs) returns-2 (λ c. search needs) loop-holds sub-i (λ c. search needs) (λ c. search needs) (λ c. search needs) (λ c. search needs) slice-write-out
     same-length returns-3 (λ c. search needs) loop-again)

@@ -39,8 +39,6 @@ returns c = (filled-done (c .before .before .before .pre) (search needs) (c .bef
 pub set-row-spec : {M : Type 1} → statement M
 set-row-spec =
     tie.close
-    (tie.spec
-    Inv-loop
-    μ-loop
+    (tie.spec Inv-loop μ-loop
     mul-from add-from loop-holds (λ c. search needs) (λ c. search needs) add-words mul-words-2 slice-write-words (λ c. search needs)
     (λ c. search needs) loop-again returns)

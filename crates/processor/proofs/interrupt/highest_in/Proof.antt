@@ -39,9 +39,7 @@ returns-3 c = sought-none (vectorsOf _ _) _ (c .before .loop .inv) (omega arith)
 pub highest-in-spec : {M : Type 1} → statement M
 highest-in-spec =
     tie.close
-    (tie.spec
-    Inv-loop
-    μ-loop
+    (tie.spec Inv-loop μ-loop
     loop-holds (λ c. search needs) returns (λ c. search needs) (λ c. search needs) (λ c. search needs) (λ c. search needs)
     loop-again (λ c. search needs) (λ c. search needs) (λ c κs. tt) (λ c. search needs) (λ c. search needs) loop-again-2
     (λ c. search needs) (λ c κs. tt) returns-2 (λ c. search needs) loop-again-3 returns-3)

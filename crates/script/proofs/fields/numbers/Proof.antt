@@ -52,8 +52,6 @@ returns-3 c = let l = c .before in ended (l .loop .inv) (omega (arith, l .loop .
 pub numbers-spec : {M : Type 1} → statement M
 numbers-spec =
     tie.close
-    (tie.spec
-    Inv-loop
-    μ-loop
+    (tie.spec Inv-loop μ-loop
     loop-holds add-start returns (λ c κs. search needs) sub-read part-read-start part-read-end (λ c κs. search needs) (λ c. search needs) (λ c. search needs)
     returns-2 (λ c. search needs) (λ c. search needs) (λ c. search needs) (λ c. search needs) loop-again returns-3)

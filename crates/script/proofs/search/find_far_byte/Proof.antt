@@ -38,8 +38,6 @@ returns-3 c = c .find-byte2 .ensures ∙ sym (c .before .before .loop .inv)
 pub find-far-byte-spec : {M : Type 1} → statement M
 find-far-byte-spec =
     tie.close
-    (tie.spec
-    Inv-loop
-    μ-loop
+    (tie.spec Inv-loop μ-loop
     (λ c κs. search needs) returns (λ c. search needs) loop-holds (λ c κs. omega arith) (λ c. omega arith) returns-2 (λ c. omega arith) (λ c. omega arith) loop-again
     (λ c κs. search needs) returns-3)

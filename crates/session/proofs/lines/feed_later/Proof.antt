@@ -109,9 +109,7 @@ loop-again c =
 pub feed-later-spec : {M : Type 1} → statement M
 feed-later-spec =
     tie.close
-    (tie.spec
-    Inv-loop
-    μ-loop
+    (tie.spec Inv-loop μ-loop
     (λ c κs. search needs) (λ c κs. search needs) (λ c. search needs) slice-aggregate-well-formed (λ c κs. search needs) loop-holds
     (λ c κs. search needs) (λ c κs. search needs) (λ c. search needs) (λ c. search needs) (λ c. search needs) (λ c κs. search needs)
     same-length returns sub-if2 (λ c κs. search needs) same-length-2 returns-2 sub-line part-line-start part-line-end

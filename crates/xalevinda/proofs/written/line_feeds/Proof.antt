@@ -33,8 +33,6 @@ returns c =
 pub line-feeds-spec : {M : Type 1} → statement M
 line-feeds-spec =
     tie.close
-    (tie.spec
-    Inv-loop
-    μ-loop
+    (tie.spec Inv-loop μ-loop
     (λ c. omega arith)
     (λ c. search needs) (λ c. search needs) (λ c. search needs) (λ c. search needs) loop-again returns)
