@@ -1,11 +1,11 @@
 // The answer of an access (01, "Memory"): read, write, fetch. Nothing is copied: the masks are lent, the rest is numbers.
 ghost use mathlib.Core.Path.{_≡_};
+ghost use Rattle.partition.specs.Levels.{levelsOf};
 ghost use Rattle.events.specs.Access.{accessAnswer, denialAnswer};
 use crate::scope::Scope;
 use crate::scope::is_unmade;
 use model::answer::Answer;
 use model::answer::Refusal;
-use model::machine::PartitionLevel;
 use model::quantity::Access;
 use model::quantity::Level;
 use model::quantity::Page;
@@ -13,6 +13,7 @@ use model::quantity::Processor;
 use partition::access::denying_set;
 use partition::access::host_denies;
 use partition::access::lowest;
+use partition::level::Levels;
 
 // The answer from who denies: malformed first, then the receiver of an intercept, then a level without one, then the host.
 fn denial_answer(malformed: bool, receiver: u64, denied: bool, host: bool, value: u64) -> Answer
@@ -38,7 +39,7 @@ fn denial_answer(malformed: bool, receiver: u64, denied: bool, host: bool, value
 // have MBEC on for the actor on its processor, `on` the set of the levels enabled there.
 pub fn access(
     c: Scope,
-    levels: [PartitionLevel; 4],
+    levels: &Levels,
     masks: &[u64; 256],
     host_mask: u64,
     mbecs: u64,
@@ -49,7 +50,7 @@ pub fn access(
     access: Access,
     value: u64,
 ) -> Answer
-    ensures { λ r. ⌜ r ≡ accessAnswer c levels (now (masks .entry)) «host_mask» mbecs on (v .0) mode (p .0) access value ⌝ }
+    ensures { λ r. ⌜ r ≡ accessAnswer c (levelsOf (now (levels .entry))) (now (masks .entry)) «host_mask» mbecs on (v .0) mode (p .0) access value ⌝ }
 {
     let actor = Level(c.actor);
     let set = denying_set(

@@ -1,10 +1,11 @@
 // The events that change what the partition holds of a level: enpart, protect, config (01, "Events"). Each is decided from numbers
-// first; masks are changed in place, and only where the event is done.
+// first; the levels' words and the masks change in place, and only where the event is done.
 ghost use mathlib.Core.Path.{_≡_};
 ghost use mathlib.Core.Bool.{not, _&&_, _||_};
 ghost use Prim.Native.Nat.{_+_, _*_};
 ghost use lib.Dec.{eqb};
 ghost use Rattle.model.specs.Masks.{turnsOn, defaultMask};
+ghost use Rattle.partition.specs.Levels.{levelsOf};
 ghost use Rattle.partition.specs.Parts.{configIn, protectsIn};
 ghost use Rattle.model.specs.Arrays.{stored};
 ghost use Rattle.events.specs.Conditions.{ifDone};
@@ -15,7 +16,6 @@ use crate::answers::settled;
 use crate::scope::Scope;
 use crate::scope::is_unmade;
 use model::answer::Answer;
-use model::machine::PartitionLevel;
 use model::quantity::Level;
 use model::quantity::Page;
 use model::quantity::Processor;
@@ -23,6 +23,7 @@ use model::set::in_set;
 use partition::config::default_mask;
 use partition::config::reserved_set;
 use partition::config::turns_on;
+use partition::level::Levels;
 use partition::level::config_at;
 use partition::level::level_at;
 use partition::level::protects_at;
@@ -31,12 +32,6 @@ use partition::mask::fill_masks;
 use partition::mask::kernel_only;
 use partition::mask::set_mask;
 use partition::mask::valid_mask;
-
-// An event on the levels' records: its answer, and the records after it.
-pub struct LevelStep {
-    pub answer: Answer,
-    pub levels: [PartitionLevel; 4],
-}
 
 // enpart: 3 if t is 0 or above M; 4 if the actor is at t or above; 5 if t is enabled.
 fn enpart_answer(c: Scope, v: Processor, mode: u64, t: Level, mbec: u64) -> Answer
@@ -51,37 +46,23 @@ fn enpart_answer(c: Scope, v: Processor, mode: u64, t: Level, mbec: u64) -> Answ
 }
 
 // enpart: level t is enabled for the partition, with MBEC or without.
-pub fn enpart(
-    c: Scope,
-    levels: [PartitionLevel; 4],
-    v: Processor,
-    mode: u64,
-    t: Level,
-    mbec: u64,
-) -> LevelStep
-    ensures { λ r. ⌜ (let a = enpartAnswer c (v .0) mode (t .0) mbec in r ≡ record { answer = a; levels = ifDone a (enpartLevels c levels (t .0) mbec) levels }) ⌝ }
+pub fn enpart(c: Scope, levels: &mut Levels, v: Processor, mode: u64, t: Level, mbec: u64) -> Answer
+    ensures answer { λ r. ⌜ r ≡ enpartAnswer c (v .0) mode (t .0) mbec ⌝ }
+    ensures levels { λ _. ⌜ (let xs = levelsOf (now (levels .entry)) in levelsOf (now (levels .exit)) ≡ ifDone (enpartAnswer c (v .0) mode (t .0) mbec) (enpartLevels c xs (t .0) mbec) xs) ⌝ }
 {
     let answer = enpart_answer(c, v, mode, t, mbec);
     if is_done(answer) {
         let mut x = level_at(c.shape, levels, t);
         x.enabled = true;
         x.mbec = mbec == 1;
-        let levels = put_level(levels, t, x);
-        return LevelStep { answer, levels };
+        put_level(levels, t, x);
     }
-    LevelStep { answer, levels }
+    answer
 }
 
 // protect: 1 if the mask is invalid; 4 at level 0; 6 if the actor's protections are off; 8.
-fn protect_answer(
-    c: Scope,
-    levels: [PartitionLevel; 4],
-    v: Processor,
-    mode: u64,
-    p: Page,
-    mask: u64,
-) -> Answer
-    ensures { λ r. ⌜ r ≡ protectAnswer c levels (v .0) mode (p .0) mask ⌝ }
+fn protect_answer(c: Scope, levels: &Levels, v: Processor, mode: u64, p: Page, mask: u64) -> Answer
+    ensures { λ r. ⌜ r ≡ protectAnswer c (levelsOf (now (levels .entry))) (v .0) mode (p .0) mask ⌝ }
 {
     let actor = Level(c.actor);
     let malformed = is_unmade(c, v, mode) | (c.pages <= p.0) | !valid_mask(mask);
@@ -95,15 +76,15 @@ fn protect_answer(
 // protect: the actor's own mask of page p is set.
 pub fn protect(
     c: Scope,
-    levels: [PartitionLevel; 4],
+    levels: &Levels,
     masks: &mut [u64; 256],
     v: Processor,
     mode: u64,
     p: Page,
     mask: u64,
 ) -> Answer
-    ensures answer { λ r. ⌜ r ≡ protectAnswer c levels (v .0) mode (p .0) mask ⌝ }
-    ensures masks { λ r. ⌜ now (masks .exit) ≡ ifDone (protectAnswer c levels (v .0) mode (p .0) mask) (stored 256 (now (masks .entry)) (4 * p .0 + c .actor) mask) (now (masks .entry)) ⌝ }
+    ensures answer { λ r. ⌜ r ≡ protectAnswer c (levelsOf (now (levels .entry))) (v .0) mode (p .0) mask ⌝ }
+    ensures masks { λ r. ⌜ now (masks .exit) ≡ ifDone (protectAnswer c (levelsOf (now (levels .entry))) (v .0) mode (p .0) mask) (stored 256 (now (masks .entry)) (4 * p .0 + c .actor) mask) (now (masks .entry)) ⌝ }
 {
     let answer = protect_answer(c, levels, v, mode, p, mask);
     if is_done(answer) {
@@ -114,23 +95,16 @@ pub fn protect(
 }
 
 // config: 7 if bit 0 was already set and the word clears it or changes the default mask.
-fn changes_once(c: Scope, levels: [PartitionLevel; 4], g: Level, word: u64) -> bool
-    ensures { λ r. ⌜ r ≡ (protectsIn (c .shape) levels (g .0) && (not (turnsOn word) || not (eqb (defaultMask word) (defaultMask (configIn (c .shape) levels (g .0)))))) ⌝ }
+fn changes_once(c: Scope, levels: &Levels, g: Level, word: u64) -> bool
+    ensures { λ r. ⌜ r ≡ (protectsIn (c .shape) (levelsOf (now (levels .entry))) (g .0) && (not (turnsOn word) || not (eqb (defaultMask word) (defaultMask (configIn (c .shape) (levelsOf (now (levels .entry))) (g .0)))))) ⌝ }
 {
     let old = config_at(c.shape, levels, g);
     protects_at(c.shape, levels, g) & (!turns_on(word) | !(default_mask(word) == default_mask(old)))
 }
 
 // config: 1 if a reserved bit is set or the mask is invalid; 3; 4 if g is above the actor; 6 if g is not enabled for the partition.
-fn config_answer(
-    c: Scope,
-    levels: [PartitionLevel; 4],
-    v: Processor,
-    mode: u64,
-    g: Level,
-    word: u64,
-) -> Answer
-    ensures { λ r. ⌜ r ≡ configAnswer c levels (v .0) mode (g .0) word ⌝ }
+fn config_answer(c: Scope, levels: &Levels, v: Processor, mode: u64, g: Level, word: u64) -> Answer
+    ensures { λ r. ⌜ r ≡ configAnswer c (levelsOf (now (levels .entry))) (v .0) mode (g .0) word ⌝ }
 {
     let target = g.0;
     let mask = default_mask(word);
@@ -145,8 +119,8 @@ fn config_answer(
 }
 
 // config: turning bit 0 on gives every page's mask of g the default.
-fn config_masks(c: Scope, levels: [PartitionLevel; 4], masks: &mut [u64; 256], g: Level, word: u64)
-    ensures { λ r. ⌜ now (masks .exit) ≡ configMasks c levels (g .0) word (now (masks .entry)) ⌝ }
+fn config_masks(c: Scope, levels: &Levels, masks: &mut [u64; 256], g: Level, word: u64)
+    ensures { λ r. ⌜ now (masks .exit) ≡ configMasks c (levelsOf (now (levels .entry))) (g .0) word (now (masks .entry)) ⌝ }
 {
     if turns_on(word) & !protects_at(c.shape, levels, g) {
         fill_masks(masks, c.pages, g, default_mask(word));
@@ -156,23 +130,23 @@ fn config_masks(c: Scope, levels: [PartitionLevel; 4], masks: &mut [u64; 256], g
 // config: the word is stored, and the masks are filled where it turns protections on.
 pub fn config(
     c: Scope,
-    levels: [PartitionLevel; 4],
+    levels: &mut Levels,
     masks: &mut [u64; 256],
     v: Processor,
     mode: u64,
     g: Level,
     word: u64,
-) -> LevelStep
-    ensures levels { λ r. ⌜ (let a = configAnswer c levels (v .0) mode (g .0) word in r ≡ record { answer = a; levels = ifDone a (configLevels c levels (g .0) word) levels }) ⌝ }
-    ensures masks { λ r. ⌜ now (masks .exit) ≡ ifDone (configAnswer c levels (v .0) mode (g .0) word) (configMasks c levels (g .0) word (now (masks .entry))) (now (masks .entry)) ⌝ }
+) -> Answer
+    ensures answer { λ r. ⌜ r ≡ configAnswer c (levelsOf (now (levels .entry))) (v .0) mode (g .0) word ⌝ }
+    ensures levels { λ _. ⌜ (let xs = levelsOf (now (levels .entry)) in levelsOf (now (levels .exit)) ≡ ifDone (configAnswer c xs (v .0) mode (g .0) word) (configLevels c xs (g .0) word) xs) ⌝ }
+    ensures masks { λ _. ⌜ (let xs = levelsOf (now (levels .entry)) in now (masks .exit) ≡ ifDone (configAnswer c xs (v .0) mode (g .0) word) (configMasks c xs (g .0) word (now (masks .entry))) (now (masks .entry))) ⌝ }
 {
     let answer = config_answer(c, levels, v, mode, g, word);
     if is_done(answer) {
         config_masks(c, levels, masks, g, word);
         let mut x = level_at(c.shape, levels, g);
         x.config = word;
-        let levels = put_level(levels, g, x);
-        return LevelStep { answer, levels };
+        put_level(levels, g, x);
     }
-    LevelStep { answer, levels }
+    answer
 }

@@ -1,14 +1,14 @@
 -- Sets of numbers as the bits of a number: what `bits` collects is read back bit by bit. Assumes nothing.
 use mathlib.Core.Path.{_≡_, refl, sym, ap, _∙_}
-use mathlib.Core.Bool.{Bool, true, false, not, cond, _||_, or-true, or-false}
+use mathlib.Core.Bool.{Bool, true, false, not, cond, _&&_, _||_, or-true, or-false}
 use Prim.Native.Nat.{ℕ, zero, suc, _+_, _*_, _/_, _%_, _^_, _≤_, _<_}
-use native.Mathlib.Nat.{zero-add, add-zero, pow-suc, lt-of-lt-of-le}
+use native.Mathlib.Nat.{zero-add, add-zero, pow-suc, mod-one, lt-of-lt-of-le}
 use native.Mathlib.Omega.{arith}
-use lib.Dec.{eqb}
+use lib.Dec.{ltb, eqb}
 use lib.Pow.{pow-pos, pow-mono, high, low}
-use borrow.Author.Tests.{eqb-true, eqb-false, ne-eqb}
+use borrow.Author.Tests.{lt-ltb, le-ltb, eqb-true, eqb-false, ne-eqb}
 use Rattle.word.specs.Field.{field, bit}
-use Rattle.word.proofs.FieldLaws.{field-mod, field-past}
+use Rattle.word.proofs.FieldLaws.{field-lt, field-end, field-mod, field-past}
 use Rattle.model.specs.Bounded.{any, least, bits}
 
 -- A choice between a number and 0 is at most the number.
@@ -86,3 +86,30 @@ unfolding least
 least-cong zero f g h = refl
 least-cong (suc n) f g h =
     rw (h 0 (omega arith), least-cong n (λ i. f (suc i)) (λ i. g (suc i)) (λ t l. h (suc t) (omega arith)))
+
+-- The set of the numbers below k that are in a word, collected below n.
+pub bits-below : (n k : ℕ) (f : ℕ → Bool) → k ≤ n → bits n (λ i. ltb i k && f i) ≡ bits k f
+unfolding bits
+bits-below zero k f h = let e : k ≡ 0 = omega arith in rw e
+bits-below (suc n) k f h = go (eqb k (suc n)) refl (bits-below n k f)
+  where
+    go : (b : Bool) → eqb k (suc n) ≡ b → (k ≤ n → bits n (λ i. ltb i k && f i) ≡ bits k f) → bits n (λ i. ltb i k && f i) + cond (ltb n k && f n) (2 ^ n) 0 ≡ bits k f
+    go true e fewer =
+        rw (eqb-true k (suc n) e, lt-ltb n (suc n) (omega arith))
+        (ap (λ x. x + cond (f n) (2 ^ n) 0) (bits-cong n (λ i. ltb i (suc n) && f i) f (λ i l. rw (lt-ltb i (suc n) (omega arith)))))
+    go false e fewer =
+        let ne : (k ≡ suc n → ⊥) = eqb-false k (suc n) e in
+        rw (le-ltb n k (omega arith), add-zero) (fewer (omega arith))
+
+-- The bits of a word below n.
+pub bits-of : (n w : ℕ) → bits n (bit w) ≡ w % 2 ^ n
+unfolding bits
+bits-of zero w = sym (mod-one w)
+bits-of (suc n) w =
+    let e : n + 1 ≡ suc n = omega arith in
+    rw (bits-of n w) (go (field n 1 w) (field-lt n 1 w) ∙ sym (field-end n 1 w) ∙ ap (λ k. w % 2 ^ k) e)
+  where
+    go : (x : ℕ) → x < 2 ^ 1 → w % 2 ^ n + cond (eqb x 1) (2 ^ n) 0 ≡ x * 2 ^ n + w % 2 ^ n
+    go zero h = omega arith
+    go (suc zero) h = omega arith
+    go (suc (suc x)) h = absurd (omega arith)

@@ -7,6 +7,7 @@ ghost use Rattle.events.specs.Conditions.{ifDone};
 ghost use Rattle.model.specs.Bounded.{bits, any};
 ghost use Rattle.model.specs.State.{isLevel, noVp, secureOf, lockBit};
 ghost use Rattle.word.specs.Field.{bit};
+ghost use Rattle.partition.specs.Levels.{levelsOf};
 ghost use Rattle.processor.specs.Record.{vpOf, vpsOf};
 ghost use Rattle.operation.specs.Operation.{scopeIn, onProcessor, levelAnswer, levelRecords, levelMasks, accessValue, pageIn, wordsDone, lockedIn, queryAnswer};
 use entry_events::call;
@@ -14,7 +15,6 @@ use entry_events::envp;
 use entry_events::int;
 use entry_events::ret;
 use events::access_events::access;
-use events::level_events::LevelStep;
 use events::level_events::config;
 use events::level_events::enpart;
 use events::level_events::protect;
@@ -24,12 +24,12 @@ use events::status_events::partition_word;
 use events::status_events::processor_word;
 use events::status_events::status;
 use model::answer::Answer;
-use model::machine::PartitionLevel;
 use model::machine::Shape;
 use model::quantity::Access;
 use model::quantity::Page;
 use model::quantity::Processor;
 use model::set::level_set;
+use partition::level::Levels;
 use partition::level::enabled_level_set;
 use partition::level::mbec_level_set;
 use processor::record::Record;
@@ -47,14 +47,8 @@ use request::ProcessorOperation;
 use request::Query;
 
 // The scope of an event, from the parts of a machine and the active level of the maker's processor.
-pub fn scope(
-    shape: Shape,
-    processors: u64,
-    pages: u64,
-    levels: [PartitionLevel; 4],
-    actor: u64,
-) -> Scope
-    ensures { λ r. ⌜ r ≡ scopeIn shape processors pages levels actor ⌝ }
+pub fn scope(shape: Shape, processors: u64, pages: u64, levels: &Levels, actor: u64) -> Scope
+    ensures { λ r. ⌜ r ≡ scopeIn shape processors pages (levelsOf (now (levels .entry))) actor ⌝ }
 {
     Scope {
         shape,
@@ -98,24 +92,22 @@ pub fn on_processor(
     }
 }
 
-// An operation on what the partition holds of the levels. The masks change in place.
+// An operation on what the partition holds of the levels. The levels' words and the masks change in place.
 pub fn on_levels(
     c: Scope,
-    levels: [PartitionLevel; 4],
+    levels: &mut Levels,
     masks: &mut [u64; 256],
     v: Processor,
     mode: u64,
     x: LevelOperation,
-) -> LevelStep
-    ensures levels { λ r. ⌜ (let a = levelAnswer c levels (v .0) mode x in r ≡ record { answer = a; levels = ifDone a (levelRecords c levels x) levels }) ⌝ }
-    ensures masks { λ r. ⌜ now (masks .exit) ≡ ifDone (levelAnswer c levels (v .0) mode x) (levelMasks c levels x (now (masks .entry))) (now (masks .entry)) ⌝ }
+) -> Answer
+    ensures answer { λ r. ⌜ r ≡ levelAnswer c (levelsOf (now (levels .entry))) (v .0) mode x ⌝ }
+    ensures levels { λ _. ⌜ (let xs = levelsOf (now (levels .entry)) in levelsOf (now (levels .exit)) ≡ ifDone (levelAnswer c xs (v .0) mode x) (levelRecords c xs x) xs) ⌝ }
+    ensures masks { λ _. ⌜ (let xs = levelsOf (now (levels .entry)) in now (masks .exit) ≡ ifDone (levelAnswer c xs (v .0) mode x) (levelMasks c xs x (now (masks .entry))) (now (masks .entry))) ⌝ }
 {
     match x {
         LevelOperation::Enpart { target, mbec } => enpart(c, levels, v, mode, target, mbec),
-        LevelOperation::Protect { page, mask } => {
-            let answer = protect(c, levels, masks, v, mode, page, mask);
-            LevelStep { answer, levels }
-        }
+        LevelOperation::Protect { page, mask } => protect(c, levels, masks, v, mode, page, mask),
         LevelOperation::Config { target, word } => config(c, levels, masks, v, mode, target, word),
     }
 }
@@ -146,7 +138,7 @@ pub fn access_value(access: Access, word: u64) -> u64
 pub fn on_page(
     c: Scope,
     p: &Record,
-    levels: [PartitionLevel; 4],
+    levels: &Levels,
     masks: &[u64; 256],
     host_mask: u64,
     words: &[u64],
@@ -155,7 +147,7 @@ pub fn on_page(
     page: Page,
     kind: Access,
 ) -> Answer
-    ensures { λ r. ⌜ r ≡ pageIn c (vpOf (now (p .entry))) levels (now (masks .entry)) «host_mask» (now (words .entry)) (v .0) mode (page .0) kind ⌝ }
+    ensures { λ r. ⌜ r ≡ pageIn c (vpOf (now (p .entry))) (levelsOf (now (levels .entry))) (now (masks .entry)) «host_mask» (now (words .entry)) (v .0) mode (page .0) kind ⌝ }
 {
     let mbecs = mbec_set(c.shape, p, c.actor);
     let on = enabled_set(c.shape, p);

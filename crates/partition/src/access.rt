@@ -4,10 +4,11 @@ ghost use mathlib.Core.Path.{_≡_};
 ghost use mathlib.Core.Bool.{_&&_};
 ghost use Rattle.word.specs.Field.{bit};
 ghost use Rattle.model.specs.Memory.{needed as neededBit};
+ghost use Rattle.partition.specs.Levels.{levelsOf};
 ghost use Rattle.partition.specs.Parts.{deniesIn, denyingSet, lowestOf, hostDeniesBy};
+use crate::level::Levels;
 use crate::level::protects_at;
 use crate::mask::mask_at;
-use model::machine::PartitionLevel;
 use model::machine::Shape;
 use model::quantity::Access;
 use model::quantity::Level;
@@ -31,7 +32,7 @@ pub fn needed(mbec: bool, mode: u64, access: Access) -> u32
 fn denies(
     z: Shape,
     pages: u64,
-    levels: [PartitionLevel; 4],
+    levels: &Levels,
     masks: &[u64; 256],
     mbecs: u64,
     l: Level,
@@ -40,7 +41,7 @@ fn denies(
     access: Access,
     t: u32,
 ) -> bool
-    ensures { λ r. ⌜ r ≡ deniesIn z pages levels (now (masks .entry)) mbecs (l .0) mode (p .0) access t ⌝ }
+    ensures { λ r. ⌜ r ≡ deniesIn z pages (levelsOf (now (levels .entry))) (now (masks .entry)) mbecs (l .0) mode (p .0) access t ⌝ }
 {
     let actor = l.0;
     let number = t as u64;
@@ -57,7 +58,7 @@ fn denies(
 pub fn denying_set(
     z: Shape,
     pages: u64,
-    levels: [PartitionLevel; 4],
+    levels: &Levels,
     masks: &[u64; 256],
     mbecs: u64,
     l: Level,
@@ -65,7 +66,7 @@ pub fn denying_set(
     p: Page,
     access: Access,
 ) -> u64
-    ensures { λ r. ⌜ r ≡ denyingSet z pages levels (now (masks .entry)) mbecs (l .0) mode (p .0) access ⌝ }
+    ensures { λ r. ⌜ r ≡ denyingSet z pages (levelsOf (now (levels .entry))) (now (masks .entry)) mbecs (l .0) mode (p .0) access ⌝ }
 {
     let first = denies(z, pages, levels, masks, mbecs, l, mode, p, access, 1);
     let second = denies(z, pages, levels, masks, mbecs, l, mode, p, access, 2);

@@ -1,10 +1,12 @@
 // Well-formed levels (01, "Well formed"): what the partition holds of each level above 0, with the level's page masks.
 ghost use mathlib.Core.Path.{_≡_};
 ghost use Rattle.model.specs.Bounded.{every};
+ghost use Rattle.partition.specs.Levels.{levelsOf};
 ghost use Rattle.partition.specs.Parts.{maskIn, maskPasses, wellFormedLevelIn, wellFormedLevelsIn};
 use crate::config::default_mask;
 use crate::config::reserved_set;
 use crate::config::turns_on;
+use crate::level::Levels;
 use crate::level::level_at;
 use crate::mask::kernel_only;
 use crate::mask::mask_at;
@@ -59,13 +61,8 @@ pub fn well_formed_level(
 }
 
 // Is each level above 0 well formed?
-pub fn well_formed_levels(
-    z: Shape,
-    pages: u64,
-    levels: [PartitionLevel; 4],
-    masks: &[u64; 256],
-) -> bool
-    ensures { λ r. ⌜ r ≡ wellFormedLevelsIn z pages levels (now (masks .entry)) ⌝ }
+pub fn well_formed_levels(z: Shape, pages: u64, levels: &Levels, masks: &[u64; 256]) -> bool
+    ensures { λ r. ⌜ r ≡ wellFormedLevelsIn z pages (levelsOf (now (levels .entry))) (now (masks .entry)) ⌝ }
 {
     let first = well_formed_level(z, pages, level_at(z, levels, Level(1)), masks, Level(1));
     let second = well_formed_level(z, pages, level_at(z, levels, Level(2)), masks, Level(2));

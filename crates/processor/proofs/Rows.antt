@@ -8,7 +8,7 @@ use lib.Dec.{ltb}
 use lib.ListN.{getD, take, drop, set, length, length-set}
 use lib.Seq.{take-all, take-suc, take-suc-set, drop-cons, getD-set-same, getD-set-other}
 use borrow.Author.Tests.{ltb-true, ltb-false}
-use Rattle.word.proofs.FieldLaws.{bit-put-in, bit-put-below, bit-put-above}
+use Rattle.word.proofs.FieldLaws.{bit-put-here, bit-put-other}
 use Rattle.word.specs.Field.{bit, put}
 use Rattle.model.specs.declared.machine.Context.{Context}
 use Rattle.model.specs.declared.machine.Shape.{Shape}
@@ -16,7 +16,8 @@ use Rattle.model.specs.Entry.{startedContext, started}
 use Rattle.model.specs.State.{level, isLevel, context}
 use Rattle.model.specs.Updates.{putContext}
 use Rattle.processor.specs.Record.{Within, part, rowOf, contextOf, contextIn, vpOf, wordIn}
-use Rattle.processor.proofs.Words.{level-low, part-before, four, four-set, context-in, row-word, row-length, row-set, within-same, within-set}
+use Rattle.model.proofs.Four.{level-low, four, four-set}
+use Rattle.processor.proofs.Words.{part-before, context-in, row-word, row-length, row-set, within-same, within-set}
 
 -- The first k words of level l's row are those of `row`.
 pub record Filled (l : ℕ) (row ws₀ ws : List ℕ) (k : ℕ) : Type 0 where
@@ -59,14 +60,10 @@ module _ (z : Shape) (ws ws₁ : List ℕ) (t ip sp cr a b c d : ℕ) (h : isLev
   newSet = put t 1 (getD ws₁ 1 0) 1
 
   others : (j : ℕ) → (j ≡ t → ⊥) → bit newSet j ≡ bit (getD ws₁ 1 0) j
-  others j n = go (ltb j t) refl
-    where
-      go : (q : Bool) → ltb j t ≡ q → bit newSet j ≡ bit (getD ws₁ 1 0) j
-      go true e = bit-put-below t 1 j (getD ws₁ 1 0) 1 (ltb-true j t e)
-      go false e = bit-put-above t 1 j (getD ws₁ 1 0) 1 (omega (arith, ltb-false j t e, n))
+  others j n = bit-put-other t j (getD ws₁ 1 0) 1 n
 
   here : bit newSet t ≡ true
-  here = let e : t + 0 ≡ t = omega arith in ap (bit newSet) (sym e) ∙ bit-put-in t 1 0 (getD ws₁ 1 0) 1 (omega arith)
+  here = bit-put-here t (getD ws₁ 1 0) 1
 
   held : a ≡ wordIn z ws t 18 → b ≡ wordIn z ws t 19 → c ≡ wordIn z ws t 20 → d ≡ wordIn z ws t 21 → a ∷ b ∷ c ∷ d ∷ [] ≡ context z (vpOf ws) t .secure
   unfolding contextIn contextOf

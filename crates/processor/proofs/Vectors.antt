@@ -18,7 +18,7 @@ use Rattle.model.specs.Entry.{isReady, highestReady}
 use Rattle.model.specs.State.{isPending, context}
 use Rattle.model.specs.declared.machine.Shape.{Shape}
 use Rattle.processor.specs.Record.{vectorsOf, vpOf, wordIn}
-use Rattle.processor.proofs.Words.{four, four-at}
+use Rattle.model.proofs.Four.{four, four-at}
 use Rattle.processor.proofs.Stores.{tpr-read, pending-read}
 
 -- Numbers that fail are passed over.

@@ -9,18 +9,13 @@ use lib.ListN.{getD, take, drop, set, length, length-set, length-take, length-dr
 use lib.Seq.{getD-take, getD-drop, getD-set-same, getD-set-other, take-set-le, take-set-lt, drop-set-lt, drop-set-add, set-getD, set-set}
 use borrow.Author.Tests.{ltb-true, ltb-false, lt-ltb}
 use Rattle.word.specs.Field.{bit}
-use Rattle.model.proofs.Bools.{and-right}
+use Rattle.model.proofs.Four.{four-at, four-set, level-low}
 use Rattle.model.specs.declared.machine.Context.{Context}
 use Rattle.model.specs.declared.machine.Shape.{Shape}
 use Rattle.model.specs.declared.machine.VirtualProcessor.{VirtualProcessor}
 use Rattle.model.specs.State.{level, top, isLevel, context, noContext, pastContext}
 use Rattle.model.specs.Updates.{withContexts, putContext}
 use Rattle.processor.specs.Record.{Within, part, rowOf, contextOf, contextIn, vpOf, wordIn}
-
--- A level of the machine is below 4.
-pub level-low : (z : Shape) (l : ℕ) → isLevel z l ≡ true → l < 4
-unfolding isLevel
-level-low z l e = ltb-true l 4 (and-right (leb l (top z)) (ltb l 4) e)
 
 -- Parts of words: what is read of one, and what a store leaves of it.
 module _ (ws : List ℕ) (from n : ℕ) where
@@ -37,25 +32,6 @@ module _ (ws : List ℕ) (from n : ℕ) where
   part-past i x h =
       let e : from + (i - from) ≡ i = omega arith in
       ap (λ j. part from n (set ws j x)) (sym e) ∙ rw (drop-set-add from ws (i - from) x, take-set-le n (drop from ws) (i - from) x (omega arith))
-
--- Four entries by their number.
-module _ {A : Type 0} (f : ℕ → A) where
-  abbrev pub four : List A
-  four = f 0 ∷ f 1 ∷ f 2 ∷ f 3 ∷ []
-
-  pub four-at : (d : A) (l : ℕ) → l < 4 → getD four l d ≡ f l
-  four-at d zero h = refl
-  four-at d (suc zero) h = refl
-  four-at d (suc (suc zero)) h = refl
-  four-at d (suc (suc (suc zero))) h = refl
-  four-at d (suc (suc (suc (suc l)))) h = absurd (omega arith)
-
-pub four-set : {A : Type 0} (f g : ℕ → A) (l : ℕ) → l < 4 → ((i : ℕ) → i < 4 → (i ≡ l → ⊥) → g i ≡ f i) → four g ≡ set (four f) l (g l)
-four-set f g zero h k = rw (k 1 (omega arith) (λ e. omega arith), k 2 (omega arith) (λ e. omega arith), k 3 (omega arith) (λ e. omega arith))
-four-set f g (suc zero) h k = rw (k 0 (omega arith) (λ e. omega arith), k 2 (omega arith) (λ e. omega arith), k 3 (omega arith) (λ e. omega arith))
-four-set f g (suc (suc zero)) h k = rw (k 0 (omega arith) (λ e. omega arith), k 1 (omega arith) (λ e. omega arith), k 3 (omega arith) (λ e. omega arith))
-four-set f g (suc (suc (suc zero))) h k = rw (k 0 (omega arith) (λ e. omega arith), k 1 (omega arith) (λ e. omega arith), k 2 (omega arith) (λ e. omega arith))
-four-set f g (suc (suc (suc (suc l)))) h k = absurd (omega arith)
 
 -- The context of a level of the machine.
 pub context-in : (z : Shape) (ws : List ℕ) (l : ℕ) → isLevel z l ≡ true → context z (vpOf ws) l ≡ contextIn ws l

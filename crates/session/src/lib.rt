@@ -5,7 +5,7 @@ ghost use mathlib.Core.Path.{_≡_};
 ghost use lib.ListN.{length};
 ghost use lib.Seq.{sets};
 ghost use Rattle.session.specs.Session.{Bounds, fed, first, isStopped, lastText, progressOf};
-use model::machine::PartitionLevel;
+use partition::level::Levels;
 use processor::record::Record;
 use state::parts::Setup;
 
@@ -28,9 +28,9 @@ pub struct Session {
     // The beginning of a line that goes on in the next chunk: so many bytes of the buffer.
     length: usize,
     line: [u8; 257],
-    // The machine in its parts: what stays the same, the levels' records, the masks, and the records of four processors.
+    // The machine in its parts: what stays the same, the words of the levels, the masks, and the records of four processors.
     setup: Setup,
-    levels: [PartitionLevel; 4],
+    levels: Levels,
     masks: [u64; 256],
     first: Record,
     second: Record,

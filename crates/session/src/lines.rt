@@ -15,7 +15,7 @@ use crate::Session;
 use crate::answer::answer_line;
 use crate::chunk;
 use model::machine::FirstLine;
-use model::machine::PartitionLevel;
+use partition::level::Levels;
 use processor::record::Record;
 use script::Start;
 use script::listing::write_line;
@@ -96,7 +96,7 @@ pub(crate) fn blank(phase: Phase) -> Session
 fn resume(
     s: Session,
     number: u64,
-    levels: [PartitionLevel; 4],
+    levels: Levels,
     masks: [u64; 256],
     vps: [Record; 4],
     words: [u64; 64],
@@ -201,17 +201,17 @@ fn end_later(s: Session, out: &mut [u8]) -> Written
     let number = s.number;
     let next = std::num::wrapping_add_u64(number, 1);
     let setup = s.setup;
-    let levels = s.levels;
+    let mut levels = s.levels;
     let mut masks = s.masks;
     let mut vps = records(s);
     let mut words = s.words;
     let lent = lent_words(&words, s.lent);
-    let formed = well_formed(setup, levels, &masks, &vps, &words[..lent]);
+    let formed = well_formed(setup, &levels, &masks, &vps, &words[..lent]);
     let size = chunk::held_length(&line, s.length);
-    let told = answer_line(
+    let wrote = answer_line(
         formed,
         setup,
-        levels,
+        &mut levels,
         &mut masks,
         &mut vps,
         &mut words[..lent],
@@ -220,12 +220,8 @@ fn end_later(s: Session, out: &mut [u8]) -> Written
         out,
         0,
     );
-    let changed = told.levels;
-    let session = resume(s, next, changed, masks, vps, words);
-    Written {
-        session,
-        wrote: told.at,
-    }
+    let session = resume(s, next, levels, masks, vps, words);
+    Written { session, wrote }
 }
 
 // Ends the line whose bytes the session holds.
@@ -265,7 +261,7 @@ pub(crate) fn feed_later(
     let mut words = start.words;
     let mut number = start.number;
     let lent = lent_words(&words, start.lent);
-    let formed = well_formed(setup, levels, &masks, &vps, &words[..lent]);
+    let formed = well_formed(setup, &levels, &masks, &vps, &words[..lent]);
     let mut i = from;
     let mut o = at;
     loop {
@@ -287,10 +283,10 @@ pub(crate) fn feed_later(
         }
         let line = &chunk[i..end];
         i = end + 1;
-        let told = answer_line(
+        o = answer_line(
             formed,
             setup,
-            levels,
+            &mut levels,
             &mut masks,
             &mut vps,
             &mut words[..lent],
@@ -299,9 +295,6 @@ pub(crate) fn feed_later(
             out,
             o,
         );
-        let changed = told.levels;
-        levels = changed;
-        o = told.at;
         number = std::num::wrapping_add_u64(number, 1);
     }
 }

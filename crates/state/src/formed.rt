@@ -9,13 +9,13 @@ ghost use Rattle.state.specs.Parts.{machineOf, stateOf};
 use crate::formed_processor::well_formed_processor;
 use crate::parts::Setup;
 use model::machine::Context;
-use model::machine::PartitionLevel;
 use model::machine::Shape;
 use model::machine::VirtualProcessor;
 use model::quantity::Level;
 use partition::formed::well_formed_levels;
+use partition::level::Levels;
 use partition::level::enabled_level_set;
-use partition::level::mbec_for;
+use partition::level::level_at;
 use partition::level::mbec_level_set;
 use partition::mask::valid_mask;
 use processor::record::Record;
@@ -66,12 +66,12 @@ fn well_formed_place(known: bool, z: Shape, words: &Record, enabled: u64, mbec: 
 // Is the state of the machine of these parts, with the words of its pages, well formed?
 pub fn well_formed(
     c: Setup,
-    levels: [PartitionLevel; 4],
+    levels: &Levels,
     masks: &[u64; 256],
     vps: &[Record; 4],
     words: &[u64],
 ) -> bool
-    ensures { λ r. ⌜ r ≡ wellFormed (stateOf (machineOf c levels (now (masks .entry)) (now (vps .entry))) (now (words .entry))) ⌝ }
+    ensures { λ r. ⌜ r ≡ wellFormed (stateOf (machineOf c (now (levels .entry)) (now (masks .entry)) (now (vps .entry))) (now (words .entry))) ⌝ }
 {
     let z = c.shape;
     let count = words.len() as u64;
@@ -84,6 +84,6 @@ pub fn well_formed(
     let third = well_formed_place(3 < c.processors, z, &vps[3], enabled, mbec);
     let protections = well_formed_levels(z, c.pages, levels, masks);
     let host = valid_mask(c.host_mask);
-    let lowest = mbec_for(z, levels, Level(0));
-    sized & (zeroth & first & second & third) & protections & host & !lowest
+    let lowest = level_at(z, levels, Level(0));
+    sized & (zeroth & first & second & third) & protections & host & !lowest.mbec
 }

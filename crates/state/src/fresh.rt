@@ -5,13 +5,14 @@ ghost use mathlib.Core.Bool.{true, false};
 ghost use mathlib.Core.List.{_∷_};
 ghost use lib.ListN.{replicate};
 ghost use Rattle.model.specs.Fresh.{admissible, freshVp, freshLevel};
+ghost use Rattle.partition.specs.Levels.{levelsOf};
 ghost use Rattle.processor.specs.Record.{vpOf};
 ghost use Rattle.state.specs.Parts.{setupOf};
 use crate::parts::Setup;
 use model::machine::FirstLine;
-use model::machine::PartitionLevel;
 use model::machine::Shape;
 use model::quantity::Level;
+use partition::level::Levels;
 use partition::mask::valid_mask;
 use processor::record::Record;
 
@@ -50,24 +51,12 @@ pub fn fresh_record() -> Record
     words
 }
 
-// What a fresh partition holds of a level: no MBEC; 62 is protections off and the default mask 15.
-fn fresh_level(on: bool) -> PartitionLevel
-    ensures { λ r. ⌜ r ≡ freshLevel on ⌝ }
+// What a fresh partition holds of the levels: level 0 alone is enabled, no level has MBEC, and each has the configuration word 62,
+// protections off and the default mask 15.
+pub fn fresh_levels() -> Levels
+    ensures { λ r. ⌜ levelsOf r ≡ freshLevel true ∷ replicate 3 (freshLevel false) ⌝ }
 {
-    PartitionLevel {
-        enabled: on,
-        mbec: false,
-        config: 62,
-    }
-}
-
-// The same of all levels: level 0 alone is enabled.
-pub fn fresh_levels() -> [PartitionLevel; 4]
-    ensures { λ r. ⌜ r ≡ freshLevel true ∷ replicate 3 (freshLevel false) ⌝ }
-{
-    let on = fresh_level(true);
-    let off = fresh_level(false);
-    [on, off, off, off]
+    [1, 0, 62, 62, 62, 62]
 }
 
 // The masks of all pages: 15 is the mask with every right.

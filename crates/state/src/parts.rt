@@ -1,4 +1,4 @@
-// The parts of a machine as code lends them (01, "The bench model"): what stays the same in a run, the levels' records, the masks
+// The parts of a machine as code lends them (01, "The bench model"): what stays the same in a run, the words of the levels, the masks
 // of the pages, and the words of each processor. specs/Parts.antt says which machine they are.
 use model::machine::Shape;
 

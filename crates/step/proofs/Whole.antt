@@ -26,7 +26,7 @@ use Rattle.model.specs.Step.{Outcome, nextFor, ruled, answered, step}
 use Rattle.model.specs.Updates.{withVps, withLevels, withMasks, putVp}
 use Rattle.model.specs.WellFormed.{wellFormed, wellSized}
 use Rattle.partition.proofs.Joins.{enabled-set-of, mbec-set-of}
-use Rattle.processor.proofs.Words.{four-at, four-set}
+use Rattle.model.proofs.Four.{four-at, four-set}
 use Rattle.processor.specs.Record.{vpOf, vpsOf}
 use Rattle.state.specs.Parts.{stateOf}
 use Rattle.events.specs.declared.scope.Scope.{Scope}

@@ -1,5 +1,5 @@
-// One event on a whole machine (01, "Events"). The machine's masks and its processors' records are lent and changed in place, as the
-// words of the pages are: no event copies more than it changes. `machineOf` of crate `state` says which machine the parts are.
+// One event on a whole machine (01, "Events"). What the machine holds of levels, pages and processors is lent and changed in place,
+// as the words of the pages are: no event copies more than it changes. `machineOf` of crate `state` says which machine the parts are.
 ghost use mathlib.Core.Bool.{_&&_};
 ghost use mathlib.Core.Path.{_≡_};
 ghost use Prim.Native.Nat.{_≤_, _<_};
@@ -7,6 +7,7 @@ ghost use lib.Dec.{ltb};
 ghost use lib.ListN.{getD, length, set};
 ghost use Rattle.model.specs.Step.{ruled as ruledOf, step as stepOf};
 ghost use Rattle.events.specs.Conditions.{ifDone};
+ghost use Rattle.partition.specs.Levels.{levelsOf};
 ghost use Rattle.processor.specs.Record.{vpsOf};
 ghost use Rattle.state.specs.Parts.{machineOf, stateOf};
 ghost use Rattle.operation.specs.Operation.{wordsDone};
@@ -18,7 +19,6 @@ use events::status_events::flush;
 use model::answer::Answer;
 use model::answer::Refusal;
 use model::event::Event;
-use model::machine::PartitionLevel;
 use model::machine::Shape;
 use model::quantity::Access;
 use model::quantity::Page;
@@ -30,6 +30,7 @@ use operation::on_processor;
 use operation::queried;
 use operation::scope;
 use operation::store_word;
+use partition::level::Levels;
 use processor::record::Record;
 use processor::record::active_of;
 use request::Operation;
@@ -37,12 +38,6 @@ use request::ProcessorOperation;
 use request::request_of;
 use state::formed::well_formed;
 use state::parts::Setup;
-
-// What an event is answered, and what the partition holds of the levels after it.
-pub struct Answered {
-    pub answer: Answer,
-    pub levels: [PartitionLevel; 4],
-}
 
 // Is v one of so many processors?
 fn is_processor(processors: u64, v: Processor) -> bool
@@ -105,7 +100,7 @@ fn store_done(words: &mut [u64], answer: Answer, page: Page, access: Access, val
 // An access by processor w: a write that is done stores its word, and an intercept enters its receiver.
 fn access_page(
     c: Scope,
-    levels: [PartitionLevel; 4],
+    levels: &Levels,
     masks: &[u64; 256],
     host_mask: u64,
     vps: &mut [Record; 4],
@@ -118,7 +113,7 @@ fn access_page(
     value: u64,
 ) -> Answer
     requires { ⌜ w .0 < 4 ⌝ }
-    ensures answer { λ r. ⌜ r ≡ pageOn c (vpsOf (now (vps .entry))) levels (now (masks .entry)) «host_mask» (now (words .entry)) (v .0) mode (w .0) (page .0) access ⌝ }
+    ensures answer { λ r. ⌜ r ≡ pageOn c (vpsOf (now (vps .entry))) (levelsOf (now (levels .entry))) (now (masks .entry)) «host_mask» (now (words .entry)) (v .0) mode (w .0) (page .0) access ⌝ }
     ensures vps { λ r. ⌜ vpsOf (now (vps .exit)) ≡ enteredBy (c .shape) (vpsOf (now (vps .entry))) (w .0) r ⌝ }
     ensures words { λ r. ⌜ now (words .exit) ≡ ifDone r (wordsDone (now (words .entry)) (page .0) access value) (now (words .entry)) ⌝ }
 {
@@ -144,14 +139,14 @@ fn access_page(
 // record changes.
 fn ruled(
     c: Setup,
-    levels: [PartitionLevel; 4],
+    levels: &mut Levels,
     masks: &mut [u64; 256],
     vps: &mut [Record; 4],
     words: &mut [u64],
     e: Event,
-) -> Answered
+) -> Answer
     requires { ⌜ c .processors ≤ 4 ⌝ }
-    ensures { λ r. ⌜ record { answer = r .answer; next = stateOf (machineOf c (r .levels) (now (masks .exit)) (now (vps .exit))) (now (words .exit)) } ≡ ruledOf (stateOf (machineOf c levels (now (masks .entry)) (now (vps .entry))) (now (words .entry))) e ⌝ }
+    ensures { λ r. ⌜ record { answer = r; next = stateOf (machineOf c (now (levels .exit)) (now (masks .exit)) (now (vps .exit))) (now (words .exit)) } ≡ ruledOf (stateOf (machineOf c (now (levels .entry)) (now (masks .entry)) (now (vps .entry))) (now (words .entry))) e ⌝ }
 {
     let request = request_of(e);
     let v = request.maker;
@@ -160,57 +155,38 @@ fn ruled(
     let operation = request.operation;
     let named = is_processor(c.processors, v) & is_processor(c.processors, w);
     if !named {
-        let answer = Answer::Refused(Refusal::Malformed);
-        return Answered { answer, levels };
+        return Answer::Refused(Refusal::Malformed);
     }
     let i = v.0 as usize;
     let j = w.0 as usize;
     let actor = active_of(&vps[i]);
     let given = scope(c.shape, c.processors, c.pages, levels, actor);
     match operation {
-        Operation::OnProcessor(x) => {
-            let answer = change_processor(given, vps, v, mode, w, x);
-            Answered { answer, levels }
-        }
-        Operation::OnLevels(x) => {
-            let after = on_levels(given, levels, masks, v, mode, x);
-            let answer = after.answer;
-            let changed = after.levels;
-            Answered {
-                answer,
-                levels: changed,
-            }
-        }
+        Operation::OnProcessor(x) => change_processor(given, vps, v, mode, w, x),
+        Operation::OnLevels(x) => on_levels(given, levels, masks, v, mode, x),
         Operation::OnPage {
             page,
             access,
             value,
-        } => {
-            let answer = access_page(
-                given,
-                levels,
-                masks,
-                c.host_mask,
-                vps,
-                words,
-                v,
-                mode,
-                w,
-                page,
-                access,
-                value,
-            );
-            Answered { answer, levels }
-        }
+        } => access_page(
+            given,
+            levels,
+            masks,
+            c.host_mask,
+            vps,
+            words,
+            v,
+            mode,
+            w,
+            page,
+            access,
+            value,
+        ),
         Operation::Flush => {
             let held = locked(c.shape, c.processors, vps, actor);
-            let answer = flush(given, held, v, mode);
-            Answered { answer, levels }
+            flush(given, held, v, mode)
         }
-        Operation::OnNothing(x) => {
-            let answer = queried(given, &vps[j], v, mode, x);
-            Answered { answer, levels }
-        }
+        Operation::OnNothing(x) => queried(given, &vps[j], v, mode, x),
     }
 }
 
@@ -219,33 +195,32 @@ fn ruled(
 pub fn step_if(
     formed: bool,
     c: Setup,
-    levels: [PartitionLevel; 4],
+    levels: &mut Levels,
     masks: &mut [u64; 256],
     vps: &mut [Record; 4],
     words: &mut [u64],
     e: Event,
-) -> Answered
-    ensures { λ r. ⌜ record { answer = r .answer; next = stateOf (machineOf c (r .levels) (now (masks .exit)) (now (vps .exit))) (now (words .exit)) } ≡ stepIf formed (stateOf (machineOf c levels (now (masks .entry)) (now (vps .entry))) (now (words .entry))) e ⌝ }
+) -> Answer
+    ensures { λ r. ⌜ record { answer = r; next = stateOf (machineOf c (now (levels .exit)) (now (masks .exit)) (now (vps .exit))) (now (words .exit)) } ≡ stepIf formed (stateOf (machineOf c (now (levels .entry)) (now (masks .entry)) (now (vps .entry))) (now (words .entry))) e ⌝ }
 {
     if formed {
         if c.processors <= 4 {
             return ruled(c, levels, masks, vps, words, e);
         }
     }
-    let answer = Answer::Refused(Refusal::Malformed);
-    Answered { answer, levels }
+    Answer::Refused(Refusal::Malformed)
 }
 
 // One event on a machine with the words of its pages. A state that is not well formed gets answer 1, and nothing changes.
 pub fn step(
     c: Setup,
-    levels: [PartitionLevel; 4],
+    levels: &mut Levels,
     masks: &mut [u64; 256],
     vps: &mut [Record; 4],
     words: &mut [u64],
     e: Event,
-) -> Answered
-    ensures { λ r. ⌜ record { answer = r .answer; next = stateOf (machineOf c (r .levels) (now (masks .exit)) (now (vps .exit))) (now (words .exit)) } ≡ stepOf (stateOf (machineOf c levels (now (masks .entry)) (now (vps .entry))) (now (words .entry))) e ⌝ }
+) -> Answer
+    ensures { λ r. ⌜ record { answer = r; next = stateOf (machineOf c (now (levels .exit)) (now (masks .exit)) (now (vps .exit))) (now (words .exit)) } ≡ stepOf (stateOf (machineOf c (now (levels .entry)) (now (masks .entry)) (now (vps .entry))) (now (words .entry))) e ⌝ }
 {
     let formed = well_formed(c, levels, masks, vps, words);
     step_if(formed, c, levels, masks, vps, words, e)

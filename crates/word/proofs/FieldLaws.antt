@@ -1,14 +1,15 @@
 -- The laws of a field, for every offset and width: what was put is taken, and every other field stays.
 -- `o` and `k` are a field's offset and width, `o′` and `k′` those of another. Assumes nothing.
 use Prim.Native.Nat.{ℕ, _+_, _-_, _*_, _/_, _%_, _^_, _≤_, _<_}
-use mathlib.Core.Path.{_≡_, sym, ap, _∙_}
-use mathlib.Core.Bool.{Bool}
+use mathlib.Core.Path.{_≡_, refl, sym, ap, _∙_}
+use mathlib.Core.Bool.{Bool, true, false}
 use native.Mathlib.Nat.{add-assoc, add-comm, mul-assoc, mul-comm, add-mul, lt-of-lt-of-le}
 use native.Mathlib.Nat.{mod-lt, mod-eq-of-lt, mod-mod, zero-mod, div-eq-of-lt, div-add-mod'}
 use native.Mathlib.Omega.{arith}
 use lib.Arith.{digits-lt}
-use lib.Dec.{eqb}
+use lib.Dec.{ltb, eqb}
 use lib.Pow.{pow-pos, pow-mono, pow-add, high, low, shr-lt, shr-shr, mod-mod-pow, mod-pow-add, field as field-low}
+use borrow.Author.Tests.{ltb-true, ltb-false}
 use Rattle.word.specs.Field.{field, put, putWord, bit}
 
 -- A field is below 2 ^ width.
@@ -116,3 +117,14 @@ bit-put-below o k i w x h = ap is-one (take-put-below o k i 1 w x (omega arith))
 
 pub bit-put-above : (o k i w x : ℕ) → o + k ≤ i → bit (put o k w x) i ≡ bit w i
 bit-put-above o k i w x h = ap is-one (take-put-above o k i 1 w x h)
+
+-- A single bit: it is the value's low bit, and every other stays.
+pub bit-put-here : (t w x : ℕ) → bit (put t 1 w x) t ≡ bit x 0
+bit-put-here t w x = let e : t + 0 ≡ t = omega arith in ap (bit (put t 1 w x)) (sym e) ∙ bit-put-in t 1 0 w x (omega arith)
+
+pub bit-put-other : (t i w x : ℕ) → (i ≡ t → ⊥) → bit (put t 1 w x) i ≡ bit w i
+bit-put-other t i w x n = go (ltb i t) refl
+  where
+    go : (b : Bool) → ltb i t ≡ b → bit (put t 1 w x) i ≡ bit w i
+    go true e = bit-put-below t 1 i w x (ltb-true i t e)
+    go false e = bit-put-above t 1 i w x (omega (arith, ltb-false i t e, n))

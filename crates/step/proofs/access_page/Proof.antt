@@ -6,9 +6,7 @@ use Rattle.step.proofs.access_page.Tie as tie
 
 returns : tie.Need-returns
 returns c =
-    let stored = c .before .before .before .before in
-    let asked = stored .before .before in
-    rw (vps-at _ _ (asked .before .before .before .before .pre)) (asked .on-page .ensures, (c .intercept .ensures, stored .store-done .ensures))
+    rw (vps-at _ _ (c .before .before .before .before .before .before .before .before .before .before .pre)) (c .before .before .before .before .before .before .on-page .ensures, (c .intercept .ensures, c .before .before .before .before .store-done .ensures))
 
 pub access-page-spec : {M : Type 1} → statement M
 access-page-spec =

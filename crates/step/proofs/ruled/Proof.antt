@@ -27,7 +27,7 @@ both-there c b h = rw (← c .before .is-processor .ensures, ← c .is-processor
 
 -- What the code has where both are there: the request with its machine, and the scope.
 abbrev machine-of : tie.Else1 → Machine
-machine-of c = let a = c .before .before .before .before .before .before .before .args in machineOf (a .c) (a .levels) (a .masks .now) (a .vps .now)
+machine-of c = let a = c .before .before .before .before .before .before .before .args in machineOf (a .c) (a .levels .now) (a .masks .now) (a .vps .now)
 
 abbrev words-of : tie.Else1 → List ℕ
 words-of c = c .before .before .before .before .before .before .before .args .words .now
@@ -51,16 +51,16 @@ maker-low c = maker-lt (machine-of c) (words-of c) (event-of c) (request-for c) 
 on-low : (c : tie.Else1) → request-for c .on .0 < 4
 on-low c = on-lt (machine-of c) (words-of c) (event-of c) (request-for c) (asked-for c) (named c)
 
-scope-known : (c : tie.After-scope) → let k = c .before .before .before in c .scope .result ≡ scope-of (machine-of k) (words-of k) (event-of k) (request-for k) (asked-for k) (named k)
+scope-known : (c : tie.After-scope) → let k = c .before .before .before .before in c .scope .result ≡ scope-of (machine-of k) (words-of k) (event-of k) (request-for k) (asked-for k) (named k)
 unfolding machineOf
-scope-known c = let k = c .before .before .before in rw (c .scope .ensures, c .before .active-of .ensures, vps-at _ _ (maker-low k))
+scope-known c = let k = c .before .before .before .before in rw (c .scope .ensures, c .before .before .active-of .ensures, vps-at _ _ (maker-low k))
 
 returns : tie.Need-returns
 unfolding machineOf
 returns c =
     let q = c .before .before .before .before .before in
     let a = q .before .before .args in
-    missing (machineOf (a .c) (a .levels) (a .masks .now) (a .vps .now)) (a .words .now) (a .e) (q .request-of .result) (q .request-of .ensures) (q .before .before .pre) (both-there (c .before) false (c .if1 .taken))
+    missing (machineOf (a .c) (a .levels .now) (a .masks .now) (a .vps .now)) (a .words .now) (a .e) (q .request-of .result) (q .request-of .ensures) (q .before .before .pre) (both-there (c .before) false (c .if1 .taken))
 
 mul-active-of : tie.Need-mul-active-of
 mul-active-of c = record { fits = omega (arith, maker-low c) }
@@ -69,21 +69,21 @@ index-1-active-of : tie.Need-index-1-active-of
 index-1-active-of c = maker-low c
 
 change-processor-requires : tie.Need-change-processor-requires
-change-processor-requires c κs = on-low (c .before .before .before .before .before .before .before)
+change-processor-requires c κs = on-low (c .before .before .before .before .before .before .before .before)
 
 access-page-requires : tie.Need-access-page-requires
-access-page-requires c κs = on-low (c .before .before .before .before .before .before .before .before .before)
+access-page-requires c κs = on-low (c .before .before .before .before .before .before .before .before .before .before .before)
 
 mul-queried : tie.Need-mul-queried
-mul-queried c = record { fits = omega (arith, on-low (c .before .before .before .before .before .before)) }
+mul-queried c = record { fits = omega (arith, on-low (c .before .before .before .before .before .before .before)) }
 
 index-1-queried : tie.Need-index-1-queried
-index-1-queried c = on-low (c .before .before .before .before .before .before)
+index-1-queried c = on-low (c .before .before .before .before .before .before .before)
 
 returns-2 : tie.Need-returns-2
 unfolding machineOf
 returns-2 c =
-    let k = c .before .before .before .before .before .before .before .before in
+    let k = c .before .before .before .before .before .before .before .before .before in
     let known = scope-known (c .before .before .before .before .before) in
     vp-left (machine-of k) (words-of k) (event-of k) (request-for k) (asked-for k) (named k) _ (c .before .before .before .operation .given .1) _ _
     (c .change-processor .ensures .0 ∙ rw known) (c .change-processor .ensures .1 ∙ rw known)
@@ -91,33 +91,33 @@ returns-2 c =
 returns-3 : tie.Need-returns-3
 unfolding machineOf
 returns-3 c =
-    let k = c .before .before .before .before .before .before .before .before .before in
+    let k = c .before .before .before .before .before .before .before .before .before .before in
     let known = scope-known (c .before .before .before .before .before .before) in
-    let done = c .before .on-levels .ensures in
+    let done = c .on-levels .ensures in
     levels-left (machine-of k) (words-of k) (event-of k) (request-for k) (asked-for k) (named k) _ (c .before .before .before .before .operation2 .given .1) _ _ _
-    (rw (done .0, known)) (rw (done .0, known)) (done .1 ∙ rw known)
+    (done .0 ∙ rw known) (done .1 .0 ∙ rw known) (done .1 .1 ∙ rw known)
 
 returns-4 : tie.Need-returns-4
 unfolding machineOf
 returns-4 c =
-    let k = c .before .before .before .before .before .before .before .before .before .before .before .before in
-    let known = scope-known (c .before .before .before .before .before .before .before .before .before) in
+    let k = c .before .before .before .before .before .before .before .before .before .before .before .before .before .before in
+    let known = scope-known (c .before .before .before .before .before .before .before .before .before .before) in
     let done = c .before .before .access-page .ensures in
-    page-left (machine-of k) (words-of k) (event-of k) (request-for k) (asked-for k) (named k) _ _ _ (c .before .before .before .before .before .before .before .operation3 .given .1) _ _ _
+    page-left (machine-of k) (words-of k) (event-of k) (request-for k) (asked-for k) (named k) _ _ _ (c .before .before .before .before .before .before .before .before .operation3 .given .1) _ _ _
     (done .0 ∙ rw known) (done .1 .0 ∙ rw known) (done .1 .1)
 
 returns-5 : tie.Need-returns-5
 unfolding machineOf
 returns-5 c =
-    let k = c .before .before .before .before .before .before .before .before in
+    let k = c .before .before .before .before .before .before .before .before .before in
     let known = scope-known (c .before .before .before .before .before) in
     flush-left (machine-of k) (words-of k) (event-of k) (request-for k) (asked-for k) (named k) (c .before .before .before .enum-told .given .1) _
-    (c .flush .ensures ∙ rw (c .before .locked .ensures, c .before .before .before .before .before .before .active-of .ensures, known, vps-at _ _ (maker-low k)))
+    (c .flush .ensures ∙ rw (c .before .locked .ensures, c .before .before .before .before .before .before .before .active-of .ensures, known, vps-at _ _ (maker-low k)))
 
 returns-6 : tie.Need-returns-6
 unfolding machineOf
 returns-6 c =
-    let k = c .before .before .before .before .before .before .before .before in
+    let k = c .before .before .before .before .before .before .before .before .before in
     let known = scope-known (c .before .before .before .before .before) in
     query-left (machine-of k) (words-of k) (event-of k) (request-for k) (asked-for k) (named k) _ (c .before .before .before .operation4 .given .1) _
     (c .queried .ensures ∙ rw (known, vps-at _ _ (on-low k)))

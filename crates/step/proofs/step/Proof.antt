@@ -6,10 +6,7 @@ use Rattle.step.proofs.step.Statement.{statement}
 use Rattle.step.proofs.step.Tie as tie
 
 returns : tie.Need-returns
-returns c =
-    let done = c .before .before in
-    let formed = done .before .before .before .before in
-    done .step-if .ensures ∙ step-as-if _ _ _ (formed .well-formed .ensures)
+returns c = c .before .before .step-if .ensures ∙ step-as-if _ _ _ (c .before .before .before .before .before .before .before .well-formed .ensures)
 
 pub step-spec : {M : Type 1} → statement M
 step-spec = tie.close (tie.spec (λ c κs. search needs) (λ c κs. search needs) (λ c. search needs) returns)

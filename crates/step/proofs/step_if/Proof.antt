@@ -11,10 +11,7 @@ use Rattle.step.proofs.step_if.Tie as tie
 
 returns : tie.Need-returns
 unfolding stepIf processors machineOf
-returns c =
-    let done = c .before .before in
-    let test = done .before .before .before .before in
-    rw (test .before .before .if1 .taken, le-leb _ _ (test .if2 .taken)) (done .ruled .ensures)
+returns c = rw (c .before .before .before .before .before .before .before .before .before .if1 .taken, le-leb _ _ (c .before .before .before .before .before .before .before .if2 .taken)) (c .before .before .ruled .ensures)
 
 returns-2 : tie.Need-returns-2
 unfolding stepIf processors machineOf nextFor

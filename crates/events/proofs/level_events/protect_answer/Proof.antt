@@ -1,8 +1,9 @@
--- `protect_answer` meets its contract: its conditions are those of the list. Assumes nothing.
+-- `level_events::protect_answer` meets its contract: its conditions are those of the list. Assumes nothing.
 use Rattle.model.specs.Answers.{firstOf}
 use Rattle.model.specs.State.{top}
 use Rattle.events.specs.Conditions.{settledBy}
 use Rattle.events.specs.Levels.{protectAnswer}
+use borrow.Author.Needs.{needs}
 use Rattle.events.proofs.level_events.protect_answer.Statement.{statement}
 use Rattle.events.proofs.level_events.protect_answer.Tie as tie
 
@@ -11,4 +12,8 @@ unfolding protectAnswer settledBy firstOf top
 returns c = rw (c .settled .ensures, c .before .in-set .ensures, c .before .before .kernel-only .ensures, c .before .before .before .protects-at .ensures, c .before .before .before .before .before .basic-conditions .ensures, c .before .before .before .before .before .before .valid-mask .ensures, c .before .before .before .before .before .before .before .before .before .is-unmade .ensures)
 
 pub protect-answer-spec : {M : Type 1} → statement M
-protect-answer-spec = tie.close (tie.spec (λ c κs. tt) (λ c κs. tt) (λ c κs. tt) (λ c κs. tt) (λ c κs. tt) (λ c κs. tt) (λ c κs. tt) returns)
+protect-answer-spec =
+    tie.close
+    (tie.spec
+    (λ c κs. search needs) (λ c κs. search needs) (λ c κs. search needs) (λ c κs. search needs) (λ c κs. search needs)
+    (λ c κs. search needs) (λ c κs. search needs) returns)

@@ -1,6 +1,7 @@
--- `config_at` meets its contract: 0 for level 0, the record's word for any other. Assumes nothing.
+-- `level::config_at` meets its contract: 0 for level 0, the record's word for any other. Assumes nothing.
 use borrow.Author.Tests.{eq-eqb, ne-eqb}
 use Rattle.partition.specs.Parts.{configIn}
+use borrow.Author.Needs.{needs}
 use Rattle.partition.proofs.level.config_at.Statement.{statement}
 use Rattle.partition.proofs.level.config_at.Tie as tie
 
@@ -13,4 +14,4 @@ unfolding configIn
 returns-2 c = rw (ne-eqb _ 0 (c .if1 .left), c .before .level-at .ensures)
 
 pub config-at-spec : {M : Type 1} → statement M
-config-at-spec = tie.close (tie.spec (λ c κs. tt) returns returns-2)
+config-at-spec = tie.close (tie.spec (λ c κs. search needs) returns returns-2)

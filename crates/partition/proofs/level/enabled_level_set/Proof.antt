@@ -1,14 +1,15 @@
--- `enabled_level_set` meets its contract: the set of four tests. Assumes nothing.
-use Rattle.model.proofs.Sets.{bits-four}
+-- `level::enabled_level_set` meets its contract: the set's bits, as many as there are levels. Assumes nothing.
+use mathlib.Core.Path.{refl}
+use Rattle.partition.specs.Levels.{levelOf}
+use Rattle.partition.proofs.Words.{set-held}
+use borrow.Author.Needs.{needs}
 use Rattle.partition.proofs.level.enabled_level_set.Statement.{statement}
 use Rattle.partition.proofs.level.enabled_level_set.Tie as tie
 
 returns : tie.Need-returns
-returns c =
-    let second = c .before .before in
-    let first = second .before in
-    rw (c .level-set .ensures, c .before .enabled-for4 .ensures, second .enabled-for3 .ensures)
-    (rw (first .enabled-for2 .ensures, first .before .enabled-for .ensures) (bits-four _))
+unfolding levelOf
+returns c = rw (c .take .ensures, c .before .level-count .ensures) (set-held _ _ _ (λ x. x .enabled) refl (λ l. unfold levelOf in refl))
 
 pub enabled-level-set-spec : {M : Type 1} → statement M
-enabled-level-set-spec = tie.close (tie.spec (λ c κs. tt) (λ c κs. tt) (λ c κs. tt) (λ c κs. tt) (λ c κs. tt) returns)
+enabled-level-set-spec =
+    tie.close (tie.spec (λ c. search needs) (λ c κs. search needs) (λ c κs. search needs) returns)

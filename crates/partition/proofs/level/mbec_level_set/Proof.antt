@@ -1,14 +1,15 @@
--- `mbec_level_set` meets its contract: the set of four tests. Assumes nothing.
-use Rattle.model.proofs.Sets.{bits-four}
+-- `level::mbec_level_set` meets its contract: the set's bits, as many as there are levels. Assumes nothing.
+use mathlib.Core.Path.{refl}
+use Rattle.partition.specs.Levels.{levelOf}
+use Rattle.partition.proofs.Words.{set-held}
+use borrow.Author.Needs.{needs}
 use Rattle.partition.proofs.level.mbec_level_set.Statement.{statement}
 use Rattle.partition.proofs.level.mbec_level_set.Tie as tie
 
 returns : tie.Need-returns
-returns c =
-    let second = c .before .before in
-    let first = second .before in
-    rw (c .level-set .ensures, c .before .mbec-for4 .ensures, second .mbec-for3 .ensures)
-    (rw (first .mbec-for2 .ensures, first .before .mbec-for .ensures) (bits-four _))
+unfolding levelOf
+returns c = rw (c .take .ensures, c .before .level-count .ensures) (set-held _ _ _ (λ x. x .mbec) refl (λ l. unfold levelOf in refl))
 
 pub mbec-level-set-spec : {M : Type 1} → statement M
-mbec-level-set-spec = tie.close (tie.spec (λ c κs. tt) (λ c κs. tt) (λ c κs. tt) (λ c κs. tt) (λ c κs. tt) returns)
+mbec-level-set-spec =
+    tie.close (tie.spec (λ c. search needs) (λ c κs. search needs) (λ c κs. search needs) returns)

@@ -1,7 +1,8 @@
 -- `control::start` meets its contract: the new row and the set of the enabled levels. Beyond M nothing changes. Assumes nothing.
 use Rattle.model.specs.Entry.{started}
 use Rattle.processor.proofs.Rows.{started-by}
-use Rattle.processor.proofs.Words.{level-low, put-none}
+use Rattle.model.proofs.Four.{level-low}
+use Rattle.processor.proofs.Words.{put-none}
 use mathlib.Core.Path.{sym, _∙_}
 use borrow.Author.Needs.{needs}
 use Rattle.processor.proofs.control.start.Statement.{statement}

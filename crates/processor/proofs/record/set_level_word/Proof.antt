@@ -1,6 +1,6 @@
 -- `record::set_level_word` meets its contract: a level of the machine has its words within the array. Assumes nothing.
 use Prim.Native.Nat.{_<_}
-use Rattle.processor.proofs.Words.{level-low}
+use Rattle.model.proofs.Four.{level-low}
 use mathlib.Core.Path.{sym, _∙_}
 use native.Mathlib.Omega.{arith}
 use borrow.Author.Needs.{needs}

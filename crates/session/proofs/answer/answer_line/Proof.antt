@@ -21,7 +21,7 @@ returns c =
     let w = c .before .before in
     let start = c .before .before .before .before .before .before .before .before .before .before in
     let a = start .args in
-    let told = told-malformed (a .number) (stateOf (machineOf (a .c) (a .levels) (a .masks .now) (a .vps .now)) (a .words .now)) _ (sym (c .before .before .before .before .before .before .parse .ensures) ∙ c .before .before .before .before .enum-told .given .1) in
+    let told = told-malformed (a .number) (stateOf (machineOf (a .c) (a .levels .now) (a .masks .now) (a .vps .now)) (a .words .now)) _ (sym (c .before .before .before .before .before .before .parse .ensures) ∙ c .before .before .before .before .enum-told .given .1) in
     (told .0, (start .pre .1, (w .write-answer .ensures .0 ∙ ap (λ (t : List ℕ). a .at + length t) (told .1), w .write-answer .ensures .1 ∙ ap (λ (t : List ℕ). sets (a .out .now) (a .at) t) (told .1))))
 
 write-answer-requires-2 : tie.Need-write-answer-requires-2
@@ -33,10 +33,10 @@ returns-2 c =
     let w = c .before .before in
     let start = c .before .before .before .before .before .before .before .before .before .before .before .before .before .before .before .before .before .before .before .before .before .before in
     let a = start .args in
-    let done = c .before .before .before .before .before .before .before .before .before .before .step-if in
+    let done = c .before .before .before .before .before .before .before .before .before .step-if in
     let on = c .before .before .before .before .before .before .before .before .before .before .before .before .before .before .processor-of in
     let shown = c .before .before .before .before .level-on in
-    let s = stateOf (machineOf (a .c) (a .levels) (a .masks .now) (a .vps .now)) (a .words .now) in
+    let s = stateOf (machineOf (a .c) (a .levels .now) (a .masks .now) (a .vps .now)) (a .words .now) in
     let said = sym (c .before .before .before .before .before .before .before .before .before .before .before .before .before .before .before .before .before .before .parse .ensures) ∙ c .before .before .before .before .before .before .before .before .before .before .before .before .before .before .before .before .e .given .1 in
     let low : on .result .0 % 4 < 4 = omega arith in
     let text = told-text (a .number) s _ _ _ said (a .formed) (start .pre .1) _ (done .ensures) (on .result) (on .ensures) (shown .result)
@@ -52,6 +52,6 @@ pub answer-line-spec : {M : Type 1} → statement M
 answer-line-spec =
     tie.close
     (tie.spec
-    (λ c κs. search needs) (λ c. search needs) (λ c. search needs) write-answer-requires (λ c. search needs) returns
+    (λ c κs. search needs) (λ c. search needs) (λ c. search needs) (λ c κs. search needs) (λ c. search needs) returns
     (λ c κs. search needs) (λ c κs. search needs) (λ c. search needs) (λ c. search needs) (λ c κs. search needs)
-    (λ c κs. search needs) write-answer-requires-2 (λ c. search needs) (λ c. search needs) returns-2)
+    (λ c κs. search needs) (λ c κs. search needs) (λ c. search needs) (λ c. search needs) returns-2)

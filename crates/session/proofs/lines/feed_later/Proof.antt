@@ -27,23 +27,23 @@ abbrev μ-loop : tie.MeasureT-loop
 
 -- The line that starts at i ends within the chunk.
 placed : (c : tie.After-line-end Inv-loop μ-loop)
-    → (c .before .loop .i ≤ c .line-end .result) × (c .line-end .result ≤ length (c .before .before .before .before .before .before .before .before .before .before .before .before .before .before .before .args .chunk .now))
+    → (c .before .loop .i ≤ c .line-end .result) × (c .line-end .result ≤ length (c .before .before .before .before .before .before .before .before .before .before .before .before .before .before .before .before .args .chunk .now))
 placed c =
     let l = c .before in
-    omega (arith, c .line-end .ensures, end-within (l .before .before .before .before .before .before .before .before .before .before .before .before .before .before .args .chunk .now) (l .loop .i) (l .loop .inv .2 .place .1))
+    omega (arith, c .line-end .ensures, end-within (l .before .before .before .before .before .before .before .before .before .before .before .before .before .before .before .args .chunk .now) (l .loop .i) (l .loop .inv .2 .place .1))
 
 -- The records so far are within the buffer.
 roomy : (c : tie.At-loop Inv-loop μ-loop) → c .loop .o ≤ length (c .loop .out)
 roomy c = omega (arith, feeds-size (c .loop .inv .2), c .loop .inv .2 .wrote)
 
 slice-aggregate-well-formed : tie.Need-slice-aggregate-well-formed Inv-loop μ-loop
-slice-aggregate-well-formed c = sym (length-take-le _ _ (omega (arith, c .before .before .before .lent-words .ensures)))
+slice-aggregate-well-formed c = sym (length-take-le _ _ (omega (arith, c .before .before .before .before .lent-words .ensures)))
 
 loop-holds : tie.Need-loop-holds Inv-loop μ-loop
 loop-holds c =
-    let start = c .before .before .before .before .before .before .before .before .before .before .before .before .before in
-    let lent = c .before .before .before .before .lent-words .ensures in
-    (lent .1, c .well-formed .ensures, rw (lent .0, c .before .before .before .before .before .before .before .records .ensures) (feeds-start _ _ _ _ _ (start .pre .0) (start .pre .1)))
+    let start = c .before .before .before .before .before .before .before .before .before .before .before .before .before .before in
+    let lent = c .before .before .before .before .before .lent-words .ensures in
+    (lent .1, c .well-formed .ensures, rw (lent .0, c .before .before .before .before .before .before .before .before .records .ensures) (feeds-start _ _ _ _ _ (start .pre .0) (start .pre .1)))
 
 same-length : tie.Need-same-length Inv-loop μ-loop
 same-length c = feeds-size (c .before .before .before .before .before .loop .inv .2)
@@ -52,10 +52,10 @@ returns : tie.Need-returns Inv-loop μ-loop
 returns c =
     let found = c .before .before .before .before in
     let l = found .before in
-    let chunk = l .before .before .before .before .before .before .before .before .before .before .before .before .before .before .args .chunk .now in
+    let chunk = l .before .before .before .before .before .before .before .before .before .before .before .before .before .before .before .args .chunk .now in
     let rest : length (drop (l .loop .i) chunk) ≤ length chunk - l .loop .i = omega (arith, length-drop (l .loop .i) chunk) in
     feeds-last (l .loop .inv .2) _ (found .line-end .ensures) (c .before .before .before .if1 .taken) _
-    (c .keep .ensures ∙ rw (c .before .before .resume .ensures, ← l .before .before .before .before .before .lent-words .ensures .0, take-all _ _ rest)) refl refl
+    (c .keep .ensures ∙ rw (c .before .before .resume .ensures, ← l .before .before .before .before .before .before .lent-words .ensures .0, take-all _ _ rest)) refl refl
 
 sub-if2 : tie.Need-sub-if2 Inv-loop μ-loop
 sub-if2 c = roomy (c .before .before)
@@ -67,7 +67,7 @@ returns-2 : tie.Need-returns-2 Inv-loop μ-loop
 returns-2 c =
     let found = c .before .before .before in
     let l = found .before in
-    feeds-full (l .loop .inv .2) _ (found .line-end .ensures) (c .before .before .if1 .left) (c .before .if2 .taken) _ (c .resume2 .ensures ∙ rw (← l .before .before .before .before .before .lent-words .ensures .0)) refl refl
+    feeds-full (l .loop .inv .2) _ (found .line-end .ensures) (c .before .before .if1 .left) (c .before .if2 .taken) _ (c .resume2 .ensures ∙ rw (← l .before .before .before .before .before .before .lent-words .ensures .0)) refl refl
 
 sub-line : tie.Need-sub-line Inv-loop μ-loop
 sub-line c = placed (c .before .before) .0
@@ -79,25 +79,25 @@ part-line-end : tie.Need-part-line-end Inv-loop μ-loop
 part-line-end c = placed (c .before .before) .1
 
 array-borrow-prefix-words : tie.Need-array-borrow-prefix-words Inv-loop μ-loop
-array-borrow-prefix-words c = let l = c .before .before .before .before .before .before in omega (arith, l .before .before .before .before .before .lent-words .ensures .0, l .loop .inv .0)
+array-borrow-prefix-words c = let l = c .before .before .before .before .before .before .before in omega (arith, l .before .before .before .before .before .before .lent-words .ensures .0, l .loop .inv .0)
 
 slice-aggregate-answer-line : tie.Need-slice-aggregate-answer-line Inv-loop μ-loop
-slice-aggregate-answer-line c = let l = c .before .before .before .before .before .before .before in sym (length-take-le _ _ (omega (arith, l .before .before .before .before .before .lent-words .ensures .0, l .loop .inv .0)))
+slice-aggregate-answer-line c = let l = c .before .before .before .before .before .before .before .before in sym (length-take-le _ _ (omega (arith, l .before .before .before .before .before .before .lent-words .ensures .0, l .loop .inv .0)))
 
 answer-line-requires : tie.Need-answer-line-requires Inv-loop μ-loop
-answer-line-requires c κs = (omega (arith, c .before .before .before .before .before .if2 .left, roomy (c .before .before .before .before .before .before .before .before)), c .before .before .before .before .before .before .before .before .loop .inv .1)
+answer-line-requires c κs = let l = c .before .before .before .before .before .before .before .before .before in (omega (arith, c .before .before .before .before .before .before .if2 .left, roomy l), l .loop .inv .1)
 
 loop-less : tie.Need-loop-less Inv-loop μ-loop
 loop-less c = omega (arith, placed (c .before .before .before .before .before .before .before .before .before .before .before .before .before), c .before .before .before .before .before .before .before .before .before .before .before .before .if1 .left)
 
 loop-again : tie.Need-loop-again Inv-loop μ-loop
 loop-again c =
-    let w = c .before .before .before .before .before .answer-line in
+    let w = c .before .before .before .before .answer-line in
     let found = c .before .before .before .before .before .before .before .before .before .before .before .before .before in
     let l = found .before in
-    let a = l .before .before .before .before .before .before .before .before .before .before .before .before .before .before .args in
-    let k = l .before .before .before .before .before .lent-words .result in
-    let back = words-back (l .loop .words) (w .last .1 .1 .1 .1 .1 .0) k (omega (arith, l .before .before .before .before .before .lent-words .ensures .0, l .loop .inv .0)) (w .kept .1 .1 .1 .1 .1 .0) in
+    let a = l .before .before .before .before .before .before .before .before .before .before .before .before .before .before .before .args in
+    let k = l .before .before .before .before .before .before .lent-words .result in
+    let back = words-back (l .loop .words) (w .last .1 .1 .1 .1 .1 .0) k (omega (arith, l .before .before .before .before .before .before .lent-words .ensures .0, l .loop .inv .0)) (w .kept .1 .1 .1 .1 .1 .0) in
     let s = stateOf (machineOf (a .start .setup) (l .loop .levels) (l .loop .masks) (l .loop .vps)) (take k (l .loop .words)) in
     let e = ended-by (l .loop .number) s _ (take (found .line-end .result - l .loop .i) (drop (l .loop .i) (a .chunk .now))) _ (w .ensures .0) refl in (
       length-front (l .loop .words) (w .last .1 .1 .1 .1 .1 .0) k (w .kept .1 .1 .1 .1 .1 .0) ∙ l .loop .inv .0,
