@@ -4,18 +4,12 @@ ghost use mathlib.Core.Path.{_≡_};
 ghost use lib.ListN.{length};
 use session::Session;
 
-// The bytes that are read at once. What is done once a chunk is then spread over some five hundred lines.
-fn in_buffer() -> [u8; 8192]
-    ensures { λ r. ⌜ 8192 ≡ length r ⌝ }
+// The bytes that are read at once, and as many that are written at once. What is done once a call is then spread over thousands of
+// lines.
+fn buffer() -> [u8; 65536]
+    ensures { λ r. ⌜ 65536 ≡ length r ⌝ }
 {
-    [0; 8192]
-}
-
-// 84 bytes for each byte that is read: room for every record of a chunk (`all-used` of session).
-fn out_buffer() -> [u8; 688128]
-    ensures { λ r. ⌜ 688128 ≡ length r ⌝ }
-{
-    [0; 688128]
+    [0; 65536]
 }
 
 // The session after a chunk, and whether to read on.
@@ -33,16 +27,31 @@ fn write(bytes: &[u8]) -> bool {
     written
 }
 
-// Feeds a chunk and writes the records that come of it. After a refused first line nothing further is read.
-fn turn(s: Session, chunk: &[u8], out: &mut [u8]) -> Turned {
-    let fed = session::feed(s, chunk, out);
-    let wrote = fed.wrote;
-    let next = fed.session;
-    let written = write(&out[..wrote]);
-    let stopped = session::stopped(next);
+// Feeds a chunk and writes the records that come of it, so many at a time as have room. After a refused first line nothing further is
+// read. Every turn uses a byte at least, so that the turns are no more than the bytes.
+fn turn(start: Session, chunk: &[u8], out: &mut [u8]) -> Turned {
+    let mut s = start;
+    let mut from: usize = 0;
+    let mut turns = chunk.len();
+    while turns > 0 {
+        let fed = session::feed(s, &chunk[from..], out);
+        let wrote = fed.wrote;
+        from += fed.used;
+        let next = fed.session;
+        s = next;
+        let written = write(&out[..wrote]);
+        let stopped = session::stopped(s);
+        if !written | (from == chunk.len()) {
+            return Turned {
+                session: s,
+                goes_on: written & !stopped,
+            };
+        }
+        turns -= 1;
+    }
     Turned {
-        session: next,
-        goes_on: written & !stopped,
+        session: s,
+        goes_on: true,
     }
 }
 
@@ -56,21 +65,21 @@ fn close(s: Session) {
 // Reads the script from the descriptor to its end and writes its listing. A read or a write that fails is told on standard error,
 // and ends it. A proved loop has to end, and nothing says that an input does: so it counts down from a number that no run uses up.
 pub(crate) fn run(descriptor: i32) {
-    let mut out = out_buffer();
-    let mut buffer = in_buffer();
+    let mut out = buffer();
+    let mut chunk = buffer();
     let mut s = session::fresh();
     let mut turns = u64::MAX;
     while turns > 0 {
-        let got = libc::read(descriptor, &mut buffer);
+        let got = libc::read(descriptor, &mut chunk);
         if got < 0 {
             os::fail(b"bench: cannot read the script");
             return;
         }
-        let n = io::count(got, &buffer);
+        let n = io::count(got, &chunk);
         if n == 0 {
             break;
         }
-        let after = turn(s, &buffer[..n], &mut out);
+        let after = turn(s, &chunk[..n], &mut out);
         if !after.goes_on {
             return;
         }

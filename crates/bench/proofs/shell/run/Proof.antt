@@ -6,10 +6,10 @@ use Rattle.bench.proofs.shell.run.Statement.{statement}
 use Rattle.bench.proofs.shell.run.Tie as tie
 
 abbrev Inv-loop : tie.InvT-loop
-Inv-loop descriptor out₀ buffer₀ s₀ turns₀ t10 out buffer s turns = (688128 ≡ length out) × (8192 ≡ length buffer)
+Inv-loop descriptor out₀ chunk₀ s₀ turns₀ t10 out chunk s turns = (65536 ≡ length out) × (65536 ≡ length chunk)
 
 abbrev μ-loop : tie.MeasureT-loop
-μ-loop descriptor out₀ buffer₀ s₀ turns₀ t10 out buffer s turns = turns
+μ-loop descriptor out₀ chunk₀ s₀ turns₀ t10 out chunk s turns = turns
 
 pub run-spec : {M : Type 1} → statement M
 run-spec =
