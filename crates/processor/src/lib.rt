@@ -6,4 +6,3 @@ pub mod register; // private and shared registers
 pub mod interrupt; // vectors, pending and ready
 pub mod secure; // secure configuration of lower levels
 pub mod control; // control records, and the start of a level
-pub mod typed; // a record as a typed value

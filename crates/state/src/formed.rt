@@ -8,6 +8,7 @@ ghost use Rattle.state.specs.Formed.{sizes, moded, modedVp, place};
 ghost use Rattle.state.specs.Parts.{machineOf, stateOf};
 use crate::formed_processor::well_formed_processor;
 use crate::parts::Setup;
+use crate::typed::record_of;
 use model::machine::Context;
 use model::machine::Shape;
 use model::machine::VirtualProcessor;
@@ -20,7 +21,6 @@ use partition::level::mbec_level_set;
 use partition::mask::valid_mask;
 use processor::record::Record;
 use processor::record::is_level;
-use processor::typed::record_of;
 use word::field::has_bit;
 
 // Are the numbers of processors and of pages and the maximum level in range, with one word for each page?

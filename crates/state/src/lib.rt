@@ -3,3 +3,4 @@ pub mod parts; // what stays the same in a run
 pub mod formed; // well-formed states
 pub mod fresh; // the machine of a first line
 mod formed_processor; // well-formed processors
+mod typed; // a record as a typed value

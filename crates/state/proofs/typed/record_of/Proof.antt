@@ -1,8 +1,8 @@
 -- `typed::record_of` meets its contract, part by part. Assumes nothing.
 use Rattle.processor.specs.Record.{vpOf}
 use borrow.Author.Needs.{needs}
-use Rattle.processor.proofs.typed.record_of.Statement.{statement}
-use Rattle.processor.proofs.typed.record_of.Tie as tie
+use Rattle.state.proofs.typed.record_of.Statement.{statement}
+use Rattle.state.proofs.typed.record_of.Tie as tie
 
 returns : tie.Need-returns
 unfolding vpOf

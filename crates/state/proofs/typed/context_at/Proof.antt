@@ -1,11 +1,11 @@
 -- `typed::context_at` meets its contract: the set of the enabled levels and the row of the level. Assumes nothing.
 use Prim.Native.Nat.{_+_, _-_, _*_}
 use Rattle.processor.specs.Record.{rowOf, contextIn}
 use mathlib.Core.Path.{_≡_}
 use native.Mathlib.Omega.{arith}
 use borrow.Author.Needs.{needs}
-use Rattle.processor.proofs.typed.context_at.Statement.{statement}
-use Rattle.processor.proofs.typed.context_at.Tie as tie
+use Rattle.state.proofs.typed.context_at.Statement.{statement}
+use Rattle.state.proofs.typed.context_at.Tie as tie
 
 returns : tie.Need-returns
 unfolding contextIn rowOf

@@ -3,13 +3,13 @@
 ghost use mathlib.Core.Path.{_≡_};
 ghost use Prim.Native.Nat.{_<_};
 ghost use lib.ListN.{length};
 ghost use Rattle.processor.specs.Record.{part, contextOf, contextIn, vpOf};
-use crate::record::Record;
 use model::machine::Context;
 use model::machine::Control;
 use model::machine::VirtualProcessor;
 use model::quantity::Level;
 use model::set::in_set;
+use processor::record::Record;
 
 // The context that the 26 words of a level stand for.
 fn context_of(enabled: bool, row: &[u64]) -> Context

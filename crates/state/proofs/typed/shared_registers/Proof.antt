@@ -1,11 +1,11 @@
 -- `typed::shared_registers` meets its contract: 126 words are the list of their entries. Assumes nothing.
-use Rattle.processor.proofs.Entries.{entries}
+use Rattle.state.proofs.Entries.{entries}
 use Rattle.processor.specs.Record.{part}
 use denote.Ref.{now}
 use mathlib.Core.Path.{ap}
 use borrow.Author.Needs.{needs}
-use Rattle.processor.proofs.typed.shared_registers.Statement.{statement}
-use Rattle.processor.proofs.typed.shared_registers.Tie as tie
+use Rattle.state.proofs.typed.shared_registers.Statement.{statement}
+use Rattle.state.proofs.typed.shared_registers.Tie as tie
 
 returns : tie.Need-returns
 returns c =

@@ -1,11 +1,11 @@
 -- `typed::context_of` meets its contract: 26 words are the list of their entries. Assumes nothing.
-use Rattle.processor.proofs.Entries.{entries}
+use Rattle.state.proofs.Entries.{entries}
 use Rattle.processor.specs.Record.{contextOf}
 use denote.Ref.{now}
 use mathlib.Core.Path.{ap}
 use borrow.Author.Needs.{needs}
-use Rattle.processor.proofs.typed.context_of.Statement.{statement}
-use Rattle.processor.proofs.typed.context_of.Tie as tie
+use Rattle.state.proofs.typed.context_of.Statement.{statement}
+use Rattle.state.proofs.typed.context_of.Tie as tie
 
 returns : tie.Need-returns
 unfolding contextOf
