@@ -28,7 +28,7 @@ fn write(bytes: &[u8]) -> bool {
 }
 
 // Feeds a chunk and writes the records that come of it, so many at a time as have room. After a refused first line nothing further is
-// read. Every turn uses a byte at least, so that the turns are no more than the bytes.
+// read. Every turn uses a byte at least (`some-used` of session), so that the turns are no more than the bytes.
 fn turn(start: Session, chunk: &[u8], out: &mut [u8]) -> Turned {
     let mut s = start;
     let mut from: usize = 0;

@@ -1,6 +1,6 @@
 -- Which field of a context each word of a level's row is: what a store into the row changes. Assumes nothing.
 use mathlib.Core.Path.{_≡_, refl, sym, ap, _∙_}
-use mathlib.Core.Bool.{Bool, true, false, cond, _&&_}
+use mathlib.Core.Bool.{Bool, true, false, _&&_}
 use mathlib.Core.List.{List}
 use Prim.Native.Nat.{ℕ, _+_, _-_, _*_, _≤_, _<_}
 use native.Mathlib.Omega.{arith}
@@ -9,13 +9,12 @@ use lib.Seq.{getD-set-same, getD-set-other, take-set-le, take-set-lt}
 use borrow.Author.Tests.{lt-ltb}
 use Rattle.word.specs.Field.{bit}
 use Rattle.model.specs.declared.machine.Context.{Context}
-use Rattle.model.specs.declared.machine.Control.{Control}
 use Rattle.model.specs.declared.machine.Shape.{Shape}
 use Rattle.model.specs.Arrays.{numberAt}
 use Rattle.model.specs.Registers.{dr6, sharedOf}
 use Rattle.model.specs.State.{level, isLevel, enabledAt}
 use Rattle.model.specs.Updates.{withRegisters, withTpr, withPending, withSecure, withControl, withActive, withShared}
-use Rattle.processor.specs.Record.{part, rowOf, contextOf, contextIn, vpOf}
+use Rattle.processor.specs.Record.{rowOf, contextOf, contextIn, vpOf}
 use Rattle.processor.proofs.Words.{part-read, part-before, part-in, part-past, context-in, context-none}
 
 -- A control record with one field changed.

@@ -1,13 +1,11 @@
 -- A whole row put into a record, word by word, and a level that starts with it. Assumes nothing.
 use mathlib.Core.Path.{_≡_, refl, sym, ap, _∙_}
-use mathlib.Core.Bool.{Bool, true, false, cond}
+use mathlib.Core.Bool.{true}
 use mathlib.Core.List.{List, [], _∷_, _++_}
 use Prim.Native.Nat.{ℕ, suc, _+_, _*_, _≤_, _<_}
 use native.Mathlib.Omega.{arith}
-use lib.Dec.{ltb}
-use lib.ListN.{getD, take, drop, set, length, length-set}
+use lib.ListN.{getD, take, set, length, length-set}
 use lib.Seq.{take-all, take-suc, take-suc-set, drop-cons, getD-set-same, getD-set-other}
-use borrow.Author.Tests.{ltb-true, ltb-false}
 use Rattle.word.proofs.FieldLaws.{bit-put-here, bit-put-other}
 use Rattle.word.specs.Field.{bit, put}
 use Rattle.model.specs.declared.machine.Context.{Context}

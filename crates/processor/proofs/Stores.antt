@@ -1,13 +1,12 @@
 -- The definitions of the model that read or change one word of a level, by the words. Assumes nothing.
-use mathlib.Core.Path.{_≡_, refl, sym, ap, _∙_}
-use mathlib.Core.Bool.{Bool, true, false, cond}
-use mathlib.Core.List.{List, [], _∷_}
-use Prim.Native.Nat.{ℕ, _+_, _*_, _/_, _%_, _≤_, _<_}
+use mathlib.Core.Path.{_≡_, refl, _∙_}
+use mathlib.Core.Bool.{cond}
+use mathlib.Core.List.{List}
+use Prim.Native.Nat.{ℕ, _+_, _*_, _<_}
 use native.Mathlib.Omega.{arith}
-use lib.Dec.{ltb}
 use lib.ListN.{getD, set, length, getD-replicate}
 use lib.Seq.{getD-take}
-use borrow.Author.Tests.{lt-ltb, le-ltb}
+use borrow.Author.Tests.{lt-ltb}
 use Rattle.word.specs.Field.{put}
 use Rattle.model.specs.declared.machine.Context.{Context}
 use Rattle.model.specs.declared.machine.Control.{Control}
@@ -15,10 +14,10 @@ use Rattle.model.specs.declared.machine.Shape.{Shape}
 use Rattle.model.specs.declared.machine.VirtualProcessor.{VirtualProcessor}
 use Rattle.model.specs.Arrays.{numberAt, stored}
 use Rattle.model.specs.Registers.{privateOf}
-use Rattle.model.specs.State.{isLevel, context, secureOf, lockBit}
-use Rattle.model.specs.Updates.{withRegisters, withTpr, withPending, withSecure, withControl, putContext, setPrivate, setTpr, setPending, setSecure, cleared, unlocked}
+use Rattle.model.specs.State.{isLevel, context, lockBit}
+use Rattle.model.specs.Updates.{withRegisters, withTpr, withPending, withSecure, withControl, setPrivate, setTpr, setSecure, cleared, unlocked}
 use Rattle.processor.specs.Record.{contextOf, vpOf, wordIn, lockCleared}
-use Rattle.processor.proofs.Words.{part-read, field-read, field-set, altered, altered-again, put-same}
+use Rattle.processor.proofs.Words.{part-read, field-read, field-set, altered, altered-again}
 use Rattle.processor.proofs.Fields.{registers-set, tpr-set, pending-set, secure-set, withReason, withFrom, withRax, withRcx, reason-set, from-set, rax-set, rcx-set}
 
 -- Words that are read.

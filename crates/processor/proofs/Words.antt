@@ -1,19 +1,19 @@
 -- The words of a record: what a word that is read stands for, and what the record is after a word was changed. Assumes nothing.
 use mathlib.Core.Path.{_≡_, refl, sym, ap, _∙_}
-use mathlib.Core.Bool.{Bool, true, false, cond, _&&_}
-use mathlib.Core.List.{List, [], _∷_}
-use Prim.Native.Nat.{ℕ, zero, suc, _+_, _-_, _*_, _≤_, _<_}
+use mathlib.Core.Bool.{Bool, true, false, cond}
+use mathlib.Core.List.{List}
+use Prim.Native.Nat.{ℕ, _+_, _-_, _*_, _≤_, _<_}
 use native.Mathlib.Omega.{arith}
-use lib.Dec.{leb, ltb}
-use lib.ListN.{getD, take, drop, set, length, length-set, length-take, length-drop}
+use lib.Dec.{ltb}
+use lib.ListN.{getD, drop, set, length, length-take, length-drop}
 use lib.Seq.{getD-take, getD-drop, getD-set-same, getD-set-other, take-set-le, take-set-lt, drop-set-lt, drop-set-add, set-getD, set-set}
-use borrow.Author.Tests.{ltb-true, ltb-false, lt-ltb}
+use borrow.Author.Tests.{ltb-true, ltb-false}
 use Rattle.word.specs.Field.{bit}
 use Rattle.model.proofs.Four.{four-at, four-set, level-low}
 use Rattle.model.specs.declared.machine.Context.{Context}
 use Rattle.model.specs.declared.machine.Shape.{Shape}
 use Rattle.model.specs.declared.machine.VirtualProcessor.{VirtualProcessor}
-use Rattle.model.specs.State.{level, top, isLevel, context, noContext, pastContext}
+use Rattle.model.specs.State.{level, isLevel, context, noContext, pastContext}
 use Rattle.model.specs.Updates.{withContexts, putContext}
 use Rattle.processor.specs.Record.{Within, part, rowOf, contextOf, contextIn, vpOf, wordIn}
 

@@ -1,7 +1,7 @@
 -- Each event decided from the parts of the state that it reads: the scope, and the record that it changes. The conditions are those
 -- of the model's rules, those with one answer joined; proofs/ shows that the answers and effects are the model's. Assumes nothing.
 use mathlib.Core.Bool.{Bool, not, _&&_, _||_}
-use mathlib.Core.List.{List, [], _∷_}
+use mathlib.Core.List.{[], _∷_}
 use Prim.Native.Nat.{ℕ}
 use lib.Dec.{leb, ltb, eqb}
 use Rattle.word.specs.Field.{bit}

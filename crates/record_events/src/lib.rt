@@ -3,7 +3,7 @@
 // smallest number is given, and only an event that is done changes the record.
 ghost use mathlib.Core.Path.{_≡_};
 ghost use Rattle.processor.specs.Record.{vpOf};
-ghost use Rattle.record_events.specs.Events.{secureAnswer, secureIn, registerAnswer, rregIn, wregIn, tprAnswer, tprIn, ackAnswer, ackIn};
+ghost use Rattle.record_events.specs.Events.{secureAnswer, secureIn, registerAnswer, rregIn, wregIn, tprIn, ackAnswer, ackIn};
 use events::answers::basic_conditions;
 use events::answers::is_done;
 use events::answers::settled;

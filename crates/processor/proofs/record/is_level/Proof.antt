@@ -1,7 +1,6 @@
 -- `record::is_level` meets its contract: the two tests of the definition. Assumes nothing.
 use Rattle.model.specs.State.{isLevel, top}
 use mathlib.Core.Path.{refl}
-use borrow.Author.Needs.{needs}
 use Rattle.processor.proofs.record.is_level.Statement.{statement}
 use Rattle.processor.proofs.record.is_level.Tie as tie
 

@@ -1,7 +1,6 @@
 -- `register::is_private` meets its contract: the tests of the definition. Assumes nothing.
 use Rattle.model.specs.Registers.{isPrivate}
 use mathlib.Core.Path.{refl}
-use borrow.Author.Needs.{needs}
 use Rattle.processor.proofs.register.is_private.Statement.{statement}
 use Rattle.processor.proofs.register.is_private.Tie as tie
 

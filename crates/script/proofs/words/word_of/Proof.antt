@@ -1,6 +1,6 @@
 -- `script::words::word_of` meets its contract: each arm looks for the words that begin with its byte.
 -- Assumes nothing.
-use mathlib.Core.Path.{refl, _∙_}
+use mathlib.Core.Path.{refl}
 use borrow.Author.Needs.{needs}
 use native.Mathlib.Omega.{arith}
 use Rattle.script.specs.Words.{words}
@@ -32,19 +32,22 @@ pub word-of-spec : {M : Type 1} → statement M
 word-of-spec =
     tie.close
     (tie.spec
-    returns (λ c. search needs) (λ c. search needs) (λ c κs. search needs) (λ c κs. search needs) (λ c κs. search needs)
-    (λ c κs. search needs) (λ c. search needs) (λ c κs. search needs) (λ c κs. search needs) (λ c κs. search needs)
+    returns (λ c. search needs) (λ c. search needs) (λ c κs. search needs) (λ c. search needs) (λ c κs. search needs)
     (λ c. search needs) (λ c κs. search needs) (λ c. search needs) (λ c κs. search needs) (λ c. search needs) (λ c κs. search needs)
-    (λ c κs. search needs)
-    (λ c. unfold withFirst in c .pick .ensures ∙ by-first words _ 97 refl (omega arith))
-    (λ c. unfold withFirst in c .words-in-c .ensures ∙ by-first words _ 99 refl (omega arith))
-    (λ c. unfold withFirst in c .words-in-e .ensures ∙ by-first words _ 101 refl (omega arith))
-    (λ c. unfold withFirst in c .words-in-f .ensures ∙ by-first words _ 102 refl (omega arith))
-    (λ c. unfold withFirst in c .pick2 .ensures ∙ by-first words _ 105 refl (omega arith))
-    (λ c. unfold withFirst in c .words-in-p .ensures ∙ by-first words _ 112 refl (omega arith))
-    (λ c. unfold withFirst in c .words-in-r .ensures ∙ by-first words _ 114 refl (omega arith))
-    (λ c. unfold withFirst in c .pick3 .ensures ∙ by-first words _ 115 refl (omega arith))
-    (λ c. unfold withFirst in c .pick4 .ensures ∙ by-first words _ 116 refl (omega arith))
-    (λ c. unfold withFirst in c .pick5 .ensures ∙ by-first words _ 118 refl (omega arith))
-    (λ c. unfold withFirst in c .words-in-w .ensures ∙ by-first words _ 119 refl (omega arith))
+    (λ c. search needs) (λ c κs. search needs) (λ c. search needs) (λ c κs. search needs) (λ c. search needs) (λ c κs. search needs)
+    (λ c. search needs) (λ c κs. search needs) (λ c. search needs) (λ c κs. search needs) (λ c. search needs) (λ c κs. search needs)
+    (λ c. search needs) (λ c κs. search needs) (λ c. search needs) (λ c κs. search needs) (λ c. search needs) (λ c κs. search needs)
+    (λ c. search needs) (λ c κs. search needs) (λ c. search needs) (λ c κs. search needs) (λ c. search needs) (λ c κs. search needs)
+    (λ c. search needs) (λ c κs. search needs) (λ c. search needs) (λ c κs. search needs)
+    (λ c. unfold withFirst in rw (c .pick .ensures) (by-first words _ 97 refl (omega arith)))
+    (λ c. unfold withFirst in rw (c .pick4 .ensures, c .before .before .pick3 .ensures, c .before .before .before .before .pick2 .ensures) (by-first words _ 99 refl (omega arith)))
+    (λ c. unfold withFirst in rw (c .pick6 .ensures, c .before .before .pick5 .ensures) (by-first words _ 101 refl (omega arith)))
+    (λ c. unfold withFirst in rw (c .pick8 .ensures, c .before .before .pick7 .ensures) (by-first words _ 102 refl (omega arith)))
+    (λ c. unfold withFirst in rw (c .pick9 .ensures) (by-first words _ 105 refl (omega arith)))
+    (λ c. unfold withFirst in rw (c .pick11 .ensures, c .before .before .pick10 .ensures) (by-first words _ 112 refl (omega arith)))
+    (λ c. unfold withFirst in rw (c .pick14 .ensures, c .before .before .pick13 .ensures, c .before .before .before .before .pick12 .ensures) (by-first words _ 114 refl (omega arith)))
+    (λ c. unfold withFirst in rw (c .pick15 .ensures) (by-first words _ 115 refl (omega arith)))
+    (λ c. unfold withFirst in rw (c .pick16 .ensures) (by-first words _ 116 refl (omega arith)))
+    (λ c. unfold withFirst in rw (c .pick17 .ensures) (by-first words _ 118 refl (omega arith)))
+    (λ c. unfold withFirst in rw (c .pick19 .ensures, c .before .before .pick18 .ensures) (by-first words _ 119 refl (omega arith)))
     returns-13)

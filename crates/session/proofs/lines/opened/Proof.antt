@@ -1,11 +1,9 @@
 -- `session::lines::opened` meets its contract: the machine is the fresh one. Assumes nothing.
-use Prim.Native.Nat.{ℕ}
 use Rattle.model.specs.declared.machine.Machine.{Machine}
 use Rattle.session.specs.Session.{lentOf}
 use Rattle.state.proofs.FreshMachine.{fresh-machine}
 use Rattle.state.specs.Parts.{stateOf}
 use lib.ListN.{replicate}
-use mathlib.Core.List.{List}
 use mathlib.Core.Path.{refl, ap}
 use borrow.Author.Needs.{needs}
 use Rattle.session.proofs.lines.opened.Statement.{statement}
