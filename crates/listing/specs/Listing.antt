@@ -17,37 +17,13 @@ use Rattle.model.specs.declared.event.Event.the-variants.{Enpart, Envp, Call, R
 use Rattle.model.specs.declared.quantity.Processor.{Processor}
 use Rattle.script.specs.Events.{lineEvent}
 use Rattle.script.specs.First.{lineFirst}
-use Rattle.script.specs.Listing.{lineFeed, listingLine}
+use Rattle.script.specs.Listing.{listingLine}
+use Rattle.script.specs.Records.{lines}
 use Rattle.script.specs.declared.Parsed.{Parsed}
 use Rattle.script.specs.declared.Parsed.the-variants as parsed
 use Rattle.script.specs.declared.Start.{Start}
 use Rattle.script.specs.declared.Start.the-variants as start
 use Rattle.model.specs.Step.{step}
-
--- The lines that a line feed ends, and the bytes after the last line feed.
-pub record Lines : Type 0 where
-  pub complete : List (List ℕ)
-  pub rest : List ℕ
-
--- A byte in front of them.
-abbrev pub inFront : ℕ → List (List ℕ) → List ℕ → Lines
-inFront byte [] rest = record { complete = []; rest = byte ∷ rest }
-inFront byte (line ∷ more) rest = record { complete = (byte ∷ line) ∷ more; rest = rest }
-
-unfoldable pub linesIn : List ℕ → Lines
-linesIn [] = record { complete = []; rest = [] }
-linesIn (byte ∷ bytes) =
-    cond (eqb byte lineFeed)
-    (record { complete = [] ∷ linesIn bytes .complete; rest = linesIn bytes .rest })
-    (inFront byte (linesIn bytes .complete) (linesIn bytes .rest))
-
--- One record a line; the last line may lack its line feed. A line feed at the end opens no further line.
-abbrev pub lastLine : List ℕ → List (List ℕ)
-lastLine [] = []
-lastLine (byte ∷ rest) = (byte ∷ rest) ∷ []
-
-unfoldable pub lines : List ℕ → List (List ℕ)
-lines input = linesIn input .complete ++ lastLine (linesIn input .rest)
 
 -- The processor that the level column is about: v, or w where no v is named.
 abbrev pub processorOf : Event → Processor

@@ -1,6 +1,7 @@
 -- The definitions of a script's lines and of a listing's lines (01, "Script and listing").
 -- Assumes nothing.
 pub mod Bytes  -- words as bytes
+pub mod Records  -- the lines of a script
 pub mod Lines  -- the fields of a line, and what a line of a known form says
 pub mod Events  -- the nineteen events, and what a later line says
 pub mod First  -- what the first line says

@@ -41,7 +41,8 @@ use Rattle.session.specs.declared.Phase.the-variants as phase
 use Rattle.listing.specs.Answer.{answerText, isKnown, levelOn}
 use Rattle.listing.specs.Listing.{answered, levelColumn, numberAfter, processorOf, recordOf, stateBy}
 use Rattle.session.specs.Parts.{blankIn, hasStopped, isLater}
-use Rattle.session.specs.Session.{Progress, begun, continued, ended, extended, first, held, isStopped, kept, lastText, later, lentOf, progressIn, roomFor, stopped}
+use Rattle.session.specs.Session.{Progress, begun, continued, ended, extended, first, isStopped, kept, lastText, later, lentOf, progressIn, roomFor, stopped}
+use Rattle.chunk.specs.Chunk.{held}
 
 -- A session of each phase that holds no bytes, and one that takes more bytes.
 pub blank-in : (p : Phase) (number : ℕ) (s : State) → number ≡ 0 → progressIn p number s [] ≡ blankIn p s

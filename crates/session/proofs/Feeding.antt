@@ -17,11 +17,12 @@ use Rattle.script.proofs.Stores.{sets-append}
 use Rattle.script.specs.First.{lineFirst}
 use Rattle.script.specs.Listing.{lineFeed}
 use Rattle.session.specs.declared.Fed.{Fed}
-use Rattle.session.specs.Chunk.{lineEnd}
-use Rattle.listing.specs.Listing.{linesIn, stateBy}
+use Rattle.chunk.specs.Chunk.{lineEnd}
+use Rattle.listing.specs.Listing.{stateBy}
+use Rattle.script.specs.Records.{linesIn}
 use Rattle.session.specs.Parts.{FedFrom}
 use Rattle.session.specs.Session.{Bounds, Ended, Feeding, Progress, begun, ended, extended, fed, fedLines, first, followed, kept, later, progressOf, roomFor, stopped}
-use Rattle.session.proofs.ChunkLines.{end-within, joined, lines-from, lines-last, lines-joined}
+use Rattle.chunk.proofs.Lines.{end-within, joined, lines-from, lines-last, lines-joined}
 
 -- A record has at most 84 bytes.
 begun-at-most : (o : Option State) → length (begun o .text) ≤ 84

@@ -17,9 +17,10 @@ use Rattle.script.specs.First.{lineFirst}
 use Rattle.script.specs.Lines.{among, fields, numbersIn, said}
 use Rattle.script.specs.Listing.{lineFeed}
 use Rattle.session.specs.Calls.{Call, Whole, calls}
-use Rattle.listing.specs.Listing.{Lines, answered, firstDone, inFront, lastLine, laterRecords, lines, linesIn, listing, listingFrom, listingOf, numberAfter, recordOf, stateBy}
+use Rattle.listing.specs.Listing.{answered, firstDone, laterRecords, listing, listingFrom, listingOf, numberAfter, recordOf, stateBy}
+use Rattle.script.specs.Records.{Lines, inFront, lastLine, lines, linesIn}
 use Rattle.session.specs.Session.{Ended, Feeding, Progress, begun, ended, extended, fed, fedLines, first, followed, kept, lastText, later, roomFor, stopped}
-use Rattle.session.proofs.ChunkLines.{joined, lines-joined, withLine}
+use Rattle.chunk.proofs.Lines.{joined, lines-joined, withLine}
 use Rattle.session.proofs.Ending.{ended-kept}
 
 -- Bytes with no line feed among them, and lines of such bytes.

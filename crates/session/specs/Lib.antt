@@ -2,5 +2,4 @@
 -- Assumes nothing.
 pub mod Session  -- what a session does with a chunk, and at the end
 pub mod Parts  -- what the code's parts give
-pub mod Chunk  -- how the code finds the lines of a chunk
 pub mod Calls  -- any run of calls

@@ -8,13 +8,15 @@ use Prim.Native.Nat.{ℕ, suc, min, _+_, _-_, _≤_}
 use lib.Dec.{eqb, ltb}
 use lib.ListN.{length, take}
 use Rattle.model.specs.State.{State}
+use Rattle.chunk.specs.Chunk.{held}
 use Rattle.script.specs.Events.{lineEvent}
 use Rattle.script.specs.First.{lineFirst}
 use Rattle.state.specs.Parts.{machineOf, stateOf}
 use Rattle.session.specs.declared.Phase.{Phase}
 use Rattle.session.specs.declared.Phase.the-variants as phase
 use Rattle.session.specs.declared.Session.{Session}
-use Rattle.listing.specs.Listing.{Answered, answered, firstDone, firstRefused, linesIn, numberAfter, recordOf, stateBy}
+use Rattle.listing.specs.Listing.{Answered, answered, firstDone, firstRefused, numberAfter, recordOf, stateBy}
+use Rattle.script.specs.Records.{linesIn}
 
 -- How far a session has come, with the bytes that it has of a line that has not ended.
 pub data Progress : Type 0 where
@@ -30,10 +32,6 @@ abbrev pub progressIn : Phase → ℕ → State → List ℕ → Progress
 progressIn phase.First number s line = first line
 progressIn phase.Later number s line = later number s line
 progressIn phase.Stopped number s line = stopped
-
--- The bytes of the line that has not ended: so many of the buffer, which has 257.
-abbrev pub held : List ℕ → ℕ → List ℕ
-held buffer length = take (min length 257) buffer
 
 -- The words of the pages: so many of the array, which has 64.
 abbrev pub lentOf : List ℕ → ℕ → List ℕ

@@ -10,7 +10,6 @@ use processor::record::Record;
 use state::parts::Setup;
 
 mod answer; // a line answered, and its record
-mod chunk; // lines in a chunk
 mod lines; // lines that end
 
 // How far a session has come.

@@ -9,7 +9,8 @@ use lib.Dec.{eqb}
 use lib.ListN.{drop, length, length-drop, take}
 use lib.Seq.{sets, take-add, take-all}
 use Rattle.decimal.specs.Write.{withText}
-use Rattle.listing.specs.Listing.{inFront, linesIn, listing}
+use Rattle.listing.specs.Listing.{listing}
+use Rattle.script.specs.Records.{inFront, linesIn}
 use Rattle.script.specs.Listing.{lineFeed}
 use Rattle.session.proofs.Whole.{whole}
 use Rattle.session.specs.Calls.{Call, calls}

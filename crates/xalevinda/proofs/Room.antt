@@ -8,7 +8,8 @@ use native.Mathlib.Numerals.{add-one}
 use native.Mathlib.Omega.{arith}
 use lib.ListN.{drop, getD, length, length-append}
 use lib.Seq.{drop-cons, drop-length}
-use Rattle.listing.specs.Listing.{Answered, answered, firstDone, inFront, lastLine, laterRecords, lines, linesIn, listing, listingFrom, listingOf, numberAfter, recordOf, stateBy}
+use Rattle.listing.specs.Listing.{Answered, answered, firstDone, laterRecords, listing, listingFrom, listingOf, numberAfter, recordOf, stateBy}
+use Rattle.script.specs.Records.{inFront, lastLine, lines, linesIn}
 use Rattle.model.specs.Answers.{numberOf, valueOf}
 use Rattle.model.specs.State.{State}
 use Rattle.script.proofs.Cells.{line-at-most}

@@ -4,7 +4,8 @@ ghost use mathlib.Core.Path.{_≡_};
 ghost use Prim.Native.Nat.{_+_};
 ghost use lib.ListN.{length};
 ghost use Rattle.decimal.specs.Write.{withText};
-ghost use Rattle.listing.specs.Listing.{linesIn, listing};
+ghost use Rattle.listing.specs.Listing.{listing};
+ghost use Rattle.script.specs.Records.{linesIn};
 ghost use Rattle.xalevinda.specs.Exports.{atMostWord};
 ghost use Rattle.xalevinda.specs.Parts.{Stored};
 

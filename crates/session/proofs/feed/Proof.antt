@@ -7,7 +7,8 @@ use native.Mathlib.Nat.{sub-zero, zero-add}
 use native.Mathlib.Omega.{arith}
 use lib.ListN.{length, take}
 use lib.Seq.{length-take-le, sets}
-use Rattle.session.specs.Session.{Ended, ended, extended, held, kept, progressOf, roomFor, stateIn}
+use Rattle.session.specs.Session.{Ended, ended, extended, kept, progressOf, roomFor, stateIn}
+use Rattle.chunk.specs.Chunk.{held}
 use Rattle.session.proofs.Ending.{ended-kept, ended-later, later-in, room-in, stopped-in}
 use Rattle.session.proofs.Feeding.{Feeds, fed-whole, feeds-full, feeds-last, feeds-line, feeds-size, feeds-start, feeds-stopped, feeds-then}
 use Rattle.session.proofs.feed.Statement.{statement}

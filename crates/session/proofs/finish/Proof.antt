@@ -6,7 +6,8 @@ use borrow.Author.Needs.{needs}
 use native.Mathlib.Omega.{arith}
 use lib.ListN.{length}
 use lib.Seq.{length-take-le}
-use Rattle.session.specs.Session.{held, progressOf, stateIn}
+use Rattle.session.specs.Session.{progressOf, stateIn}
+use Rattle.chunk.specs.Chunk.{held}
 use Rattle.session.proofs.Ending.{last-none, last-some}
 use Rattle.session.proofs.Feeding.{ended-at-most}
 use Rattle.session.proofs.finish.Statement.{statement}

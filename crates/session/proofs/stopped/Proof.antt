@@ -1,6 +1,7 @@
 -- `session::stopped` meets its contract: the phase says it. Assumes nothing.
 use mathlib.Core.Path.{_∙_}
-use Rattle.session.specs.Session.{held, stateIn}
+use Rattle.session.specs.Session.{stateIn}
+use Rattle.chunk.specs.Chunk.{held}
 use Rattle.session.proofs.Ending.{phase-stopped}
 use Rattle.session.proofs.stopped.Statement.{statement}
 use Rattle.session.proofs.stopped.Tie as tie

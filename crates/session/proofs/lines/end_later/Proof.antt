@@ -1,6 +1,6 @@
 -- `session::lines::end_later` meets its contract: the line is answered in the state of the session. Assumes nothing.
 use Prim.Native.Nat.{ℕ}
-use Rattle.session.proofs.ChunkLines.{held-taken, held-within}
+use Rattle.chunk.proofs.Lines.{held-taken, held-within}
 use Rattle.session.proofs.Ending.{ended-by, words-back}
 use Rattle.state.specs.Parts.{machineOf, stateOf}
 use lib.ListN.{length, take}

@@ -2,7 +2,7 @@
 -- holds nothing, and the measure is what is left of the chunk. Assumes nothing.
 use Prim.Native.Nat.{ℕ, _+_, _-_, _≤_}
 use Rattle.model.specs.WellFormed.{wellFormed}
-use Rattle.session.proofs.ChunkLines.{end-within}
+use Rattle.chunk.proofs.Lines.{end-within}
 use Rattle.session.proofs.Ending.{ended-by, words-back}
 use Rattle.session.proofs.Feeding.{Feeds, feeds-full, feeds-last, feeds-line, feeds-size, feeds-start}
 use Rattle.session.specs.Session.{later, stateIn}

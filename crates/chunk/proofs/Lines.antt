@@ -12,9 +12,8 @@ use lib.Seq.{drop-drop, take-all, take-at, take-suc, take-suc-set}
 use Rattle.script.proofs.Places.{end-within as within}
 use Rattle.script.specs.Listing.{lineFeed}
 use Rattle.script.specs.Search.{untilByte}
-use Rattle.session.specs.Chunk.{lineEnd, untilFeed}
-use Rattle.listing.specs.Listing.{Lines, inFront, linesIn}
-use Rattle.session.specs.Session.{held}
+use Rattle.chunk.specs.Chunk.{held, lineEnd, untilFeed}
+use Rattle.script.specs.Records.{Lines, inFront, linesIn}
 
 -- A line ends within the chunk.
 pub end-within : (chunk : List ℕ) (start : ℕ) → start ≤ length chunk → (start ≤ lineEnd chunk start) × (lineEnd chunk start ≤ length chunk)

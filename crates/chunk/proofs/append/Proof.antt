@@ -1,11 +1,11 @@
--- `session::chunk::append` meets its contract. The loop's invariant is `Appending`, and the measure is what is left of `more`.
+-- `chunk::append` meets its contract. The loop's invariant is `Appending`, and the measure is what is left of `more`.
 -- Assumes nothing.
 use Prim.Native.Nat.{_-_}
 use borrow.Author.Needs.{needs}
 use lib.ListN.{length}
-use Rattle.session.proofs.ChunkLines.{Appending, append-all, append-byte, append-full, append-start}
-use Rattle.session.proofs.chunk.append.Statement.{statement}
-use Rattle.session.proofs.chunk.append.Tie as tie
+use Rattle.chunk.proofs.Lines.{Appending, append-all, append-byte, append-full, append-start}
+use Rattle.chunk.proofs.append.Statement.{statement}
+use Rattle.chunk.proofs.append.Tie as tie
 
 abbrev Inv-loop : tie.InvT-loop
 Inv-loop length₀ more line₀ at₀ i₀ line at i = Appending line₀ length₀ more line at i

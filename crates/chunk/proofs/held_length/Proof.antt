@@ -1,9 +1,9 @@
--- `session::chunk::held_length` meets its contract: the buffer has 257 bytes. Assumes nothing.
+-- `chunk::held_length` meets its contract: the buffer has 257 bytes. Assumes nothing.
 use Prim.Native.Nat.{min}
 use native.Mathlib.Omega.{arith}
 use lib.ListN.{length-take}
-use Rattle.session.proofs.chunk.held_length.Statement.{statement}
-use Rattle.session.proofs.chunk.held_length.Tie as tie
+use Rattle.chunk.proofs.held_length.Statement.{statement}
+use Rattle.chunk.proofs.held_length.Tie as tie
 
 returns : tie.Need-returns
 returns c =

@@ -1,9 +1,9 @@
--- `session::chunk::parse_first` meets its contract: the bytes of the line are the first of the buffer. Assumes nothing.
+-- `chunk::parse_first` meets its contract: the bytes of the line are the first of the buffer. Assumes nothing.
 use mathlib.Core.Path.{sym, _∙_}
 use native.Mathlib.Omega.{arith}
 use lib.Seq.{length-take-le}
-use Rattle.session.proofs.chunk.parse_first.Statement.{statement}
-use Rattle.session.proofs.chunk.parse_first.Tie as tie
+use Rattle.chunk.proofs.parse_first.Statement.{statement}
+use Rattle.chunk.proofs.parse_first.Tie as tie
 
 slice-aggregate-parse-first : tie.Need-slice-aggregate-parse-first
 slice-aggregate-parse-first c = sym (length-take-le _ _ (omega (arith, c .before .at-most .ensures, c .before .before .buffer .given)))

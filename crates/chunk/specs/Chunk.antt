@@ -1,6 +1,7 @@
--- How the code finds the lines of a chunk. Assumes nothing.
+-- Lines in a chunk: where one ends, and the beginning of one that goes on in the next chunk. Assumes nothing.
 use mathlib.Core.List.{List}
-use Prim.Native.Nat.{ℕ}
+use Prim.Native.Nat.{ℕ, min}
+use lib.ListN.{take}
 use Rattle.script.specs.Listing.{lineFeed}
 use Rattle.script.specs.Search.{byteAt, untilByte}
 
@@ -11,3 +12,7 @@ untilFeed bytes = untilByte lineFeed bytes
 -- Where the line that starts at a place ends: at the next line feed, or at the chunk's end.
 abbrev pub lineEnd : List ℕ → ℕ → ℕ
 lineEnd chunk start = byteAt lineFeed chunk start
+
+-- The bytes of the line that has not ended: so many of the buffer, which has 257.
+abbrev pub held : List ℕ → ℕ → List ℕ
+held buffer length = take (min length 257) buffer

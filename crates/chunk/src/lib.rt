@@ -4,8 +4,7 @@ ghost use mathlib.Core.Path.{_≡_};
 ghost use Prim.Native.Nat.{min};
 ghost use lib.ListN.{take};
 ghost use Rattle.script.specs.First.{lineFirst};
-ghost use Rattle.session.specs.Chunk.{lineEnd};
-ghost use Rattle.session.specs.Session.{held};
+ghost use Rattle.chunk.specs.Chunk.{held, lineEnd};
 use script::Start;
 use script::search::find_far_byte;
 
@@ -13,21 +12,21 @@ use script::search::find_far_byte;
 const KEPT: usize = 257;
 
 // The smaller of two numbers.
-pub(crate) fn at_most(n: usize, most: usize) -> usize
+pub fn at_most(n: usize, most: usize) -> usize
     ensures { λ r. ⌜ r ≡ min n most ⌝ }
 {
     if n < most { n } else { most }
 }
 
 // Where the line that starts at `start` ends: at the next line feed, or at the chunk's end.
-pub(crate) fn line_end(chunk: &[u8], start: usize) -> usize
+pub fn line_end(chunk: &[u8], start: usize) -> usize
     ensures { λ r. ⌜ r ≡ lineEnd (now (chunk .entry)) start ⌝ }
 {
     find_far_byte(chunk, start, b'\n')
 }
 
 // Puts more bytes after the first `length` of a line, as far as there is room, and returns how many it then has.
-pub(crate) fn append(line: &mut [u8; 257], length: usize, more: &[u8]) -> usize
+pub fn append(line: &mut [u8; 257], length: usize, more: &[u8]) -> usize
     ensures { λ r. ⌜ held (now (line .exit)) r ≡ take 257 (held (now (line .entry)) length ++ now (more .entry)) ⌝ }
 {
     let buffer: &mut [u8] = line;
@@ -45,7 +44,7 @@ pub(crate) fn append(line: &mut [u8; 257], length: usize, more: &[u8]) -> usize
 }
 
 // How many bytes of a line are in the buffer.
-pub(crate) fn held_length(line: &[u8; 257], length: usize) -> usize
+pub fn held_length(line: &[u8; 257], length: usize) -> usize
     ensures { λ r. ⌜ r ≡ lib.ListN.length (held (now (line .entry)) length) ⌝ }
 {
     let buffer: &[u8] = line;
@@ -53,7 +52,7 @@ pub(crate) fn held_length(line: &[u8; 257], length: usize) -> usize
 }
 
 // What the first line says.
-pub(crate) fn parse_first(line: &[u8; 257], length: usize) -> Start
+pub fn parse_first(line: &[u8; 257], length: usize) -> Start
     ensures { λ r. ⌜ r ≡ lineFirst (held (now (line .entry)) length) ⌝ }
 {
     let buffer: &[u8] = line;

@@ -1,0 +1,2 @@
+-- The definitions of lines in a chunk. Assumes nothing.
+pub mod Chunk  -- where a line ends, and what is held of one
