@@ -1,4 +1,5 @@
-// The state of a partition with its virtual processors and trust levels, held by value. The words of its pages are lent.
+// The state of a partition with its virtual processors and trust levels, typed and nested, as the definitions have it. Code keeps it as
+// words that are lent (crates `processor`, `partition`, `state`). The words of the pages are lent too.
 // What lies beyond the number of processors, the maximum level or the number of pages is no part of a state.
 use crate::quantity::Level;
 
