@@ -10,7 +10,7 @@ use lib.ListN.{length, length-append}
 use Rattle.decimal.proofs.Room.{after-no-room, after-room, with-no-room, with-room}
 use Rattle.script.specs.Lines.{tab}
 use Rattle.script.specs.Listing.{cell, lineFeed, listingLine}
-use Rattle.script.proofs.Cells.{Written, line-at-most, line-length, written-length, written-next}
+use Rattle.script.proofs.Cells.{Written, line-at-most, line-length, written-next, written-room}
 use Rattle.script.proofs.listing.write_line.Statement.{statement}
 use Rattle.script.proofs.listing.write_line.Tie as tie
 
@@ -27,6 +27,14 @@ room : (c : tie.Joined2)
 room c =
     let a = c .before .before .before .args in
     ⊎-elim (λ counted. omega arith) (λ long. omega (arith, line-at-most (a .number) (a .answer) (a .value) (a .level))) (c .if2 .came)
+
+-- The same cell by cell.
+cells-room : (c : tie.Joined2)
+    → let a = c .before .before .before .args in
+    a .at + (length (cell (a .number) tab) + length (cell (a .answer) tab) + length (cell (a .value) tab) + length (cell (a .level) lineFeed)) ≤ length (a .out .now)
+cells-room c =
+    let a = c .before .before .before .args in
+    omega (arith, room c, line-length (a .number) (a .answer) (a .value) (a .level))
 
 -- The line up to its second cell, and up to its third.
 two-cells : (c : tie.After-write-cell2)
@@ -46,50 +54,30 @@ three-cells c =
     written-next (a .out .now) (a .at) (cell (a .number) tab ++ cell (a .answer) tab) (cell (a .value) tab) (two-cells two) (c .write-cell3 .ensures)
 
 write-cell-requires : tie.Need-write-cell-requires
-write-cell-requires c κs =
-    let a = c .before .before .before .before .args in
-    omega (arith, room (c .before), line-length (a .number) (a .answer) (a .value) (a .level))
+write-cell-requires c κs = omega (arith, cells-room (c .before))
 
 write-cell-requires-2 : tie.Need-write-cell-requires-2
 write-cell-requires-2 c κs =
     let one = c .before .before .before in
-    let start = one .before .before in
-    let a = start .before .before .before .args in
-    omega (
-      arith,
-      room start,
-      line-length (a .number) (a .answer) (a .value) (a .level),
-      written-length (a .out .now) (a .at) (cell (a .number) tab) (one .write-cell .ensures),
-    )
+    let a = one .before .before .before .before .before .args in
+    written-room (a .out .now) (a .at) (cell (a .number) tab) _ (one .write-cell .ensures) (omega (arith, cells-room (one .before .before)))
 
 write-cell-requires-3 : tie.Need-write-cell-requires-3
 write-cell-requires-3 c κs =
     let two = c .before .before .before in
     let start = two .before .before .before .before .before .before in
     let a = start .before .before .before .args in
-    omega (
-      arith,
-      room start,
-      line-length (a .number) (a .answer) (a .value) (a .level),
-      length-append (cell (a .number) tab) (cell (a .answer) tab),
-      two-cells two .0,
-      written-length (a .out .now) (a .at) (cell (a .number) tab ++ cell (a .answer) tab) (two-cells two),
-    )
+    written-room (a .out .now) (a .at) (cell (a .number) tab ++ cell (a .answer) tab) _ (two-cells two)
+    (omega (arith, cells-room start, length-append (cell (a .number) tab) (cell (a .answer) tab)))
 
 write-cell-requires-4 : tie.Need-write-cell-requires-4
 write-cell-requires-4 c κs =
     let three = c .before .before .before in
     let start = three .before .before .before .before .before .before .before .before .before .before in
     let a = start .before .before .before .args in
-    omega (
-      arith,
-      room start,
-      line-length (a .number) (a .answer) (a .value) (a .level),
-      length-append (cell (a .number) tab) (cell (a .answer) tab),
-      length-append (cell (a .number) tab ++ cell (a .answer) tab) (cell (a .value) tab),
-      three-cells three .0,
-      written-length (a .out .now) (a .at) (cell (a .number) tab ++ cell (a .answer) tab ++ cell (a .value) tab) (three-cells three),
-    )
+    let two = cell (a .number) tab ++ cell (a .answer) tab in
+    written-room (a .out .now) (a .at) (two ++ cell (a .value) tab) _ (three-cells three)
+    (omega (arith, cells-room start, length-append (cell (a .number) tab) (cell (a .answer) tab), length-append two (cell (a .value) tab)))
 
 returns-3 : tie.Need-returns-3
 unfolding listingLine
