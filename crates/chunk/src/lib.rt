@@ -25,7 +25,8 @@ pub fn line_end(chunk: &[u8], start: usize) -> usize
     find_far_byte(chunk, start, b'\n')
 }
 
-// Puts more bytes after the first `length` of a line, as far as there is room, and returns how many it then has.
+// Puts more bytes after the first `length` of a line, as far as there is room, and returns how many it then has. What the buffer holds
+// beyond them is no part of a line, and nothing is promised of it.
 pub fn append(line: &mut [u8; 257], length: usize, more: &[u8]) -> usize
     ensures { λ r. ⌜ held (now (line .exit)) r ≡ take 257 (held (now (line .entry)) length ++ now (more .entry)) ⌝ }
 {

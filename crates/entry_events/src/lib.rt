@@ -59,7 +59,7 @@ pub fn call(c: Scope, p: &mut Record, v: Processor, mode: u64, length: u64) -> A
     answer
 }
 
-// ret: 2 at level 0 or if RCX is above 1. The value is the level now active.
+// ret: 2 at level 0 or if RCX is above 1. The value is the level now active, known only after the return; so it is refused in place.
 pub fn ret(c: Scope, p: &mut Record, v: Processor, mode: u64, length: u64) -> Answer
     ensures { λ r. ⌜ record { answer = r; vp = vpOf (now (p .exit)) } ≡ retIn c (vpOf (now (p .entry))) (v .0) mode length ⌝ }
 {
