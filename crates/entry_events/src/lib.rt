@@ -1,19 +1,19 @@
 // The events that move a processor from level to level or start a level on it (01, "Events": call, ret, envp, int). Each is given the
-// scope and the record, which is lent, and gives the answer. Where several refusals apply the smallest number is given, and only an
-// event that is done changes the record.
+// scope and the record, which is lent, tests the conditions of its rule one after the other and leaves with the first that holds; only then
+// the record changes.
 ghost use mathlib.Core.Path.{_≡_};
 ghost use Rattle.processor.specs.Record.{vpOf};
-ghost use Rattle.entry_events.specs.Events.{badLength, callAnswer, callIn, retIn, envpAnswer, envpIn, intAnswer, intIn};
+ghost use Rattle.model.specs.declared.event.Event.the-variants.{Made, Int};
+ghost use Rattle.model.specs.declared.event.Action.the-variants.{Envp, Call, Ret};
+ghost use Rattle.model.specs.declared.quantity.Processor.{Processor as Maker};
+ghost use Rattle.model.specs.Updates.{putVp};
+ghost use Rattle.events.specs.Ruled.{Has, Gives, Changes};
 use entry::interrupt;
 use entry::next_up;
 use entry::vtl_call;
 use entry::vtl_return;
-use events::answers::basic_conditions;
-use events::answers::is_done;
 use events::answers::one_if;
-use events::answers::settled;
 use events::scope::Scope;
-use events::scope::is_unmade;
 use model::answer::Answer;
 use model::answer::Refusal;
 use model::quantity::Level;
@@ -28,82 +28,60 @@ use processor::register::private_of;
 use processor::register::shared_of;
 use word::field::has_bit;
 
-// Is an instruction's length not one of 1 to 15?
-fn bad_length(length: u64) -> bool
-    ensures { λ r. ⌜ r ≡ badLength length ⌝ }
+// call: the next enabled level up is entered. The value is that level.
+pub fn call(c: Scope, p: &mut Record, mode: u64, length: u64) -> Answer
+    ensures { λ r. ⌜ Changes c (vpOf (now (p .entry))) mode (Call length) r (vpOf (now (p .exit))) ⌝ }
 {
-    (length == 0) | (15 < length)
-}
-
-// call: 2 in real mode (the actor's CR0 bit 0 clear), if RCX is not 0, or if no higher level is enabled. The value is the level
-// entered, `next`.
-fn call_answer(c: Scope, p: &Record, v: Processor, mode: u64, length: u64, next: u64) -> Answer
-    ensures { λ r. ⌜ r ≡ callAnswer c (vpOf (now (p .entry))) (v .0) mode length next ⌝ }
-{
-    let protected_mode = has_bit(private_of(c.shape, p, active_of(p), 3), 0);
-    let rcx = shared_of(p, 14);
-    let mut k = basic_conditions(is_unmade(c, v, mode) | bad_length(length), mode);
-    k.undefined = (mode == 1) | !protected_mode | !(rcx == 0) | (next == 4);
-    settled(k, next)
-}
-
-// call: the next enabled level up is entered.
-pub fn call(c: Scope, p: &mut Record, v: Processor, mode: u64, length: u64) -> Answer
-    ensures { λ r. ⌜ record { answer = r; vp = vpOf (now (p .exit)) } ≡ callIn c (vpOf (now (p .entry))) (v .0) mode length ⌝ }
-{
+    if length == 0 {
+        return Answer::Refused(Refusal::LengthOutOfRange);
+    }
+    if 15 < length {
+        return Answer::Refused(Refusal::LengthOutOfRange);
+    }
+    if mode == 1 {
+        return Answer::Refused(Refusal::UserMode);
+    }
+    if !has_bit(private_of(c.shape, p, c.actor, 3), 0) {
+        return Answer::Refused(Refusal::RealMode);
+    }
+    if !(shared_of(p, 14) == 0) {
+        return Answer::Refused(Refusal::RcxNotZero);
+    }
     let next = next_up(c.shape, p);
-    let answer = call_answer(c, p, v, mode, length, next);
-    if is_done(answer) {
-        vtl_call(c.shape, p, next, length);
+    if next == 4 {
+        return Answer::Refused(Refusal::NoHigherLevel);
     }
-    answer
+    vtl_call(c.shape, p, next, length);
+    Answer::Done(next)
 }
 
-// ret: 2 at level 0 or if RCX is above 1. The value is the level now active, known only after the return; so it is refused in place.
-pub fn ret(c: Scope, p: &mut Record, v: Processor, mode: u64, length: u64) -> Answer
-    ensures { λ r. ⌜ record { answer = r; vp = vpOf (now (p .exit)) } ≡ retIn c (vpOf (now (p .entry))) (v .0) mode length ⌝ }
+// ret: back to the level that the rules say. The value is the level now active.
+pub fn ret(c: Scope, p: &mut Record, mode: u64, length: u64) -> Answer
+    ensures { λ r. ⌜ Changes c (vpOf (now (p .entry))) mode (Ret length) r (vpOf (now (p .exit))) ⌝ }
 {
-    let malformed = is_unmade(c, v, mode) | bad_length(length);
-    if malformed {
-        return Answer::Refused(Refusal::Malformed);
+    if length == 0 {
+        return Answer::Refused(Refusal::LengthOutOfRange);
     }
-    let lowest = active_of(p) == 0;
-    let undefined = (mode == 1) | lowest | (1 < shared_of(p, 14));
-    if undefined {
-        return Answer::Refused(Refusal::UndefinedOpcode);
+    if 15 < length {
+        return Answer::Refused(Refusal::LengthOutOfRange);
+    }
+    if mode == 1 {
+        return Answer::Refused(Refusal::UserMode);
+    }
+    if c.actor == 0 {
+        return Answer::Refused(Refusal::AtLevelZero);
+    }
+    if 1 < shared_of(p, 14) {
+        return Answer::Refused(Refusal::RcxAboveOne);
     }
     vtl_return(c.shape, p, length);
     Answer::Done(active_of(p))
 }
 
-// envp, of the record p of processor w: 1 if bit 0 of cr is clear; 3 if t is 0 or above M; 4 if actor >= t; 5 if t is enabled
-// on w; 6 if it is not for the partition.
-fn envp_answer(
-    c: Scope,
-    p: &Record,
-    v: Processor,
-    mode: u64,
-    w: Processor,
-    t: Level,
-    cr: u64,
-) -> Answer
-    ensures { λ r. ⌜ r ≡ envpAnswer c (vpOf (now (p .entry))) (v .0) mode (w .0) (t .0) cr ⌝ }
-{
-    let real = !has_bit(cr, 0);
-    let malformed = is_unmade(c, v, mode) | (c.processors <= w.0) | (15 < t.0) | real;
-    let mut k = basic_conditions(malformed, mode);
-    k.invalid_level = (t.0 == 0) | (c.shape.max_level.0 < t.0);
-    k.not_permitted = t.0 <= c.actor;
-    k.already_enabled = enabled_at(c.shape, p, t.0);
-    k.not_enabled = !in_set(c.enabled, t.0);
-    settled(k, 0)
-}
-
-// envp: level t starts on w with RIP, RSP and CR0 as given.
+// envp, of the record p of processor w, which is there: level t starts on w with RIP, RSP and CR0 as given.
 pub fn envp(
     c: Scope,
     p: &mut Record,
-    v: Processor,
     mode: u64,
     w: Processor,
     t: Level,
@@ -111,34 +89,56 @@ pub fn envp(
     sp: u64,
     cr: u64,
 ) -> Answer
-    ensures { λ r. ⌜ record { answer = r; vp = vpOf (now (p .exit)) } ≡ envpIn c (vpOf (now (p .entry))) (v .0) mode (w .0) (t .0) ip sp cr ⌝ }
+    ensures { λ r. ⌜ ((v : Maker) → Gives (Has c v mode w (vpOf (now (p .entry)))) (Made v mode (Envp w t ip sp cr)) r (λ s. putVp s (w .0) (vpOf (now (p .exit))))) ⌝ }
 {
-    let answer = envp_answer(c, p, v, mode, w, t, cr);
-    if is_done(answer) {
-        start(c.shape, p, t.0, ip, sp, cr);
+    if 15 < t.0 {
+        return Answer::Refused(Refusal::LevelOutOfRange);
     }
-    answer
+    if !has_bit(cr, 0) {
+        return Answer::Refused(Refusal::RealModeGiven);
+    }
+    if mode == 1 {
+        return Answer::Refused(Refusal::UserMode);
+    }
+    if t.0 == 0 {
+        return Answer::Refused(Refusal::LevelZero);
+    }
+    if c.shape.max_level.0 < t.0 {
+        return Answer::Refused(Refusal::AboveMaximum);
+    }
+    if t.0 <= c.actor {
+        return Answer::Refused(Refusal::TargetNotAbove);
+    }
+    if enabled_at(c.shape, p, t.0) {
+        return Answer::Refused(Refusal::EnabledOnProcessor);
+    }
+    if !in_set(c.enabled, t.0) {
+        return Answer::Refused(Refusal::NotForPartition);
+    }
+    start(c.shape, p, t.0, ip, sp, cr);
+    Answer::Done(0)
 }
 
-// int, of the record p of processor w: 1 for a vector below 16 or above 255; 3 if g > M; 6 if g is not enabled on w. The value
-// is 1 if g is entered, else 0.
-fn int_answer(c: Scope, p: &Record, w: Processor, g: Level, vector: u64) -> Answer
-    ensures { λ r. ⌜ r ≡ intAnswer c (vpOf (now (p .entry))) (w .0) (g .0) vector ⌝ }
-{
-    let malformed = (c.processors <= w.0) | (15 < g.0) | (vector < 16) | (255 < vector);
-    let mut k = basic_conditions(malformed, 0);
-    k.invalid_level = c.shape.max_level.0 < g.0;
-    k.not_enabled = !enabled_at(c.shape, p, g.0);
-    settled(k, one_if(enters(c.shape, p, g.0, vector)))
-}
-
-// int: the vector is made pending, and g is entered or not.
+// int, of the record p of processor w, which is there: the vector is made pending, and g is entered or not. The value is 1 if it is, else 0.
 pub fn int(c: Scope, p: &mut Record, w: Processor, g: Level, vector: u64) -> Answer
-    ensures { λ r. ⌜ record { answer = r; vp = vpOf (now (p .exit)) } ≡ intIn c (vpOf (now (p .entry))) (w .0) (g .0) vector ⌝ }
+    ensures { λ r. ⌜ Gives (Has c w 0 w (vpOf (now (p .entry)))) (Int w g vector) r (λ s. putVp s (w .0) (vpOf (now (p .exit)))) ⌝ }
 {
-    let answer = int_answer(c, p, w, g, vector);
-    if is_done(answer) {
-        interrupt(c.shape, p, g.0, vector);
+    if 15 < g.0 {
+        return Answer::Refused(Refusal::LevelOutOfRange);
     }
-    answer
+    if vector < 16 {
+        return Answer::Refused(Refusal::VectorOutOfRange);
+    }
+    if 255 < vector {
+        return Answer::Refused(Refusal::VectorOutOfRange);
+    }
+    if c.shape.max_level.0 < g.0 {
+        return Answer::Refused(Refusal::AboveMaximum);
+    }
+    if !enabled_at(c.shape, p, g.0) {
+        return Answer::Refused(Refusal::NotOnProcessor);
+    }
+    let entered = one_if(enters(c.shape, p, g.0, vector));
+    interrupt(c.shape, p, g.0, vector);
+    Answer::Done(entered)
 }

@@ -1,24 +1,23 @@
-// The events that change what the partition holds of a level: enpart, protect, config (01, "Events"). Each is decided from numbers
-// first; the levels' words and the masks change in place, and only where the event is done.
+// The events that change what the partition holds of a level: enpart, protect, config (01, "Events"). Each tests the conditions of its rule
+// one after the other and leaves with the first that holds; only then the levels' words and the masks change, in place.
 ghost use mathlib.Core.Path.{_≡_};
-ghost use mathlib.Core.Bool.{not, _&&_, _||_};
-ghost use Prim.Native.Nat.{_+_, _*_};
-ghost use lib.Dec.{eqb};
+ghost use mathlib.Core.Bool.{not, _&&_};
 ghost use Rattle.model.specs.Masks.{turnsOn, defaultMask};
 ghost use Rattle.partition.specs.Levels.{levelsOf};
-ghost use Rattle.partition.specs.Parts.{configIn, protectsIn};
-ghost use Rattle.model.specs.Arrays.{stored};
-ghost use Rattle.events.specs.Conditions.{ifDone};
-ghost use Rattle.events.specs.Levels.{enpartAnswer, enpartLevels, protectAnswer, configAnswer, configLevels, configMasks};
-use crate::answers::basic_conditions;
-use crate::answers::is_done;
-use crate::answers::settled;
+ghost use Rattle.partition.specs.Parts.{protectsIn};
+ghost use mathlib.Core.Bool.{cond};
+ghost use mathlib.Core.List.{List};
+ghost use Prim.Native.Nat.{ℕ};
+ghost use Rattle.model.specs.declared.event.Event.the-variants.{Made};
+ghost use Rattle.model.specs.declared.event.Action.the-variants.{Enpart, Protect, Config};
+ghost use Rattle.model.specs.Updates.{filled};
+ghost use Rattle.events.specs.Ruled.{Gives, Keeps, putParts};
+ghost use Rattle.model.specs.declared.quantity.Processor.{Processor as Maker};
 use crate::scope::Scope;
-use crate::scope::is_unmade;
 use model::answer::Answer;
+use model::answer::Refusal;
 use model::quantity::Level;
 use model::quantity::Page;
-use model::quantity::Processor;
 use model::set::in_set;
 use partition::config::default_mask;
 use partition::config::reserved_set;
@@ -33,44 +32,36 @@ use partition::mask::kernel_only;
 use partition::mask::set_mask;
 use partition::mask::valid_mask;
 
-// enpart: 3 if t is 0 or above M; 4 if the actor is at t or above; 5 if t is enabled.
-fn enpart_answer(c: Scope, v: Processor, mode: u64, t: Level, mbec: u64) -> Answer
-    ensures { λ r. ⌜ r ≡ enpartAnswer c (v .0) mode (t .0) mbec ⌝ }
-{
-    let target = t.0;
-    let mut k = basic_conditions(is_unmade(c, v, mode) | (15 < target) | (1 < mbec), mode);
-    k.invalid_level = (target == 0) | (c.shape.max_level.0 < target);
-    k.not_permitted = target <= c.actor;
-    k.already_enabled = in_set(c.enabled, target);
-    settled(k, 0)
-}
-
 // enpart: level t is enabled for the partition, with MBEC or without.
-pub fn enpart(c: Scope, levels: &mut Levels, v: Processor, mode: u64, t: Level, mbec: u64) -> Answer
-    ensures answer { λ r. ⌜ r ≡ enpartAnswer c (v .0) mode (t .0) mbec ⌝ }
-    ensures levels { λ _. ⌜ (let xs = levelsOf (now (levels .entry)) in levelsOf (now (levels .exit)) ≡ ifDone (enpartAnswer c (v .0) mode (t .0) mbec) (enpartLevels c xs (t .0) mbec) xs) ⌝ }
+pub fn enpart(c: Scope, levels: &mut Levels, mode: u64, t: Level, mbec: u64) -> Answer
+    ensures { λ r. ⌜ ((v : Maker) (ks : List ℕ) → Gives (Keeps c v mode (levelsOf (now (levels .entry))) ks) (Made v mode (Enpart t mbec)) r (putParts (levelsOf (now (levels .exit))) ks)) ⌝ }
 {
-    let answer = enpart_answer(c, v, mode, t, mbec);
-    if is_done(answer) {
-        let mut x = level_at(c.shape, levels, t);
-        x.enabled = true;
-        x.mbec = mbec == 1;
-        put_level(levels, t, x);
+    if 15 < t.0 {
+        return Answer::Refused(Refusal::LevelOutOfRange);
     }
-    answer
-}
-
-// protect: 1 if the mask is invalid; 4 at level 0; 6 if the actor's protections are off; 8.
-fn protect_answer(c: Scope, levels: &Levels, v: Processor, mode: u64, p: Page, mask: u64) -> Answer
-    ensures { λ r. ⌜ r ≡ protectAnswer c (levelsOf (now (levels .entry))) (v .0) mode (p .0) mask ⌝ }
-{
-    let actor = Level(c.actor);
-    let malformed = is_unmade(c, v, mode) | (c.pages <= p.0) | !valid_mask(mask);
-    let mut k = basic_conditions(malformed, mode);
-    k.not_permitted = c.actor == 0;
-    k.not_enabled = !protects_at(c.shape, levels, actor);
-    k.kernel_only = kernel_only(mask) & in_set(c.mbec, c.actor);
-    settled(k, 0)
+    if 1 < mbec {
+        return Answer::Refused(Refusal::MbecOutOfRange);
+    }
+    if mode == 1 {
+        return Answer::Refused(Refusal::UserMode);
+    }
+    if t.0 == 0 {
+        return Answer::Refused(Refusal::LevelZero);
+    }
+    if c.shape.max_level.0 < t.0 {
+        return Answer::Refused(Refusal::AboveMaximum);
+    }
+    if t.0 <= c.actor {
+        return Answer::Refused(Refusal::TargetNotAbove);
+    }
+    if in_set(c.enabled, t.0) {
+        return Answer::Refused(Refusal::EnabledForPartition);
+    }
+    let mut x = level_at(c.shape, levels, t);
+    x.enabled = true;
+    x.mbec = mbec == 1;
+    put_level(levels, t, x);
+    Answer::Done(0)
 }
 
 // protect: the actor's own mask of page p is set.
@@ -78,49 +69,38 @@ pub fn protect(
     c: Scope,
     levels: &Levels,
     masks: &mut [u64; 256],
-    v: Processor,
     mode: u64,
     p: Page,
     mask: u64,
 ) -> Answer
-    ensures answer { λ r. ⌜ r ≡ protectAnswer c (levelsOf (now (levels .entry))) (v .0) mode (p .0) mask ⌝ }
-    ensures masks { λ r. ⌜ now (masks .exit) ≡ ifDone (protectAnswer c (levelsOf (now (levels .entry))) (v .0) mode (p .0) mask) (stored 256 (now (masks .entry)) (4 * p .0 + c .actor) mask) (now (masks .entry)) ⌝ }
+    ensures { λ r. ⌜ ((v : Maker) → Gives (Keeps c v mode (levelsOf (now (levels .entry))) (now (masks .entry))) (Made v mode (Protect p mask)) r (putParts (levelsOf (now (levels .entry))) (now (masks .exit)))) ⌝ }
 {
-    let answer = protect_answer(c, levels, v, mode, p, mask);
-    if is_done(answer) {
-        let actor = Level(c.actor);
-        set_mask(masks, actor, p, mask);
+    let actor = Level(c.actor);
+    if c.pages <= p.0 {
+        return Answer::Refused(Refusal::NoSuchPage);
     }
-    answer
-}
-
-// config: 7 if bit 0 was already set and the word clears it or changes the default mask.
-fn changes_once(c: Scope, levels: &Levels, g: Level, word: u64) -> bool
-    ensures { λ r. ⌜ r ≡ (protectsIn (c .shape) (levelsOf (now (levels .entry))) (g .0) && (not (turnsOn word) || not (eqb (defaultMask word) (defaultMask (configIn (c .shape) (levelsOf (now (levels .entry))) (g .0)))))) ⌝ }
-{
-    let old = config_at(c.shape, levels, g);
-    protects_at(c.shape, levels, g) & (!turns_on(word) | !(default_mask(word) == default_mask(old)))
-}
-
-// config: 1 if a reserved bit is set or the mask is invalid; 3; 4 if g is above the actor; 6 if g is not enabled for the partition.
-fn config_answer(c: Scope, levels: &Levels, v: Processor, mode: u64, g: Level, word: u64) -> Answer
-    ensures { λ r. ⌜ r ≡ configAnswer c (levelsOf (now (levels .entry))) (v .0) mode (g .0) word ⌝ }
-{
-    let target = g.0;
-    let mask = default_mask(word);
-    let malformed = is_unmade(c, v, mode) | (15 < target) | reserved_set(word) | !valid_mask(mask);
-    let mut k = basic_conditions(malformed, mode);
-    k.invalid_level = (target == 0) | (c.shape.max_level.0 < target);
-    k.not_permitted = c.actor < target;
-    k.not_enabled = !in_set(c.enabled, target);
-    k.write_once = changes_once(c, levels, g, word);
-    k.kernel_only = kernel_only(mask) & in_set(c.mbec, target);
-    settled(k, 0)
+    if !valid_mask(mask) {
+        return Answer::Refused(Refusal::InvalidMask);
+    }
+    if mode == 1 {
+        return Answer::Refused(Refusal::UserMode);
+    }
+    if c.actor == 0 {
+        return Answer::Refused(Refusal::NothingBelow);
+    }
+    if !protects_at(c.shape, levels, actor) {
+        return Answer::Refused(Refusal::ProtectionsOff);
+    }
+    if kernel_only(mask) & in_set(c.mbec, c.actor) {
+        return Answer::Refused(Refusal::KernelOnlyExecute);
+    }
+    set_mask(masks, actor, p, mask);
+    Answer::Done(0)
 }
 
 // config: turning bit 0 on gives every page's mask of g the default.
 fn config_masks(c: Scope, levels: &Levels, masks: &mut [u64; 256], g: Level, word: u64)
-    ensures { λ r. ⌜ now (masks .exit) ≡ configMasks c (levelsOf (now (levels .entry))) (g .0) word (now (masks .entry)) ⌝ }
+    ensures { λ r. ⌜ now (masks .exit) ≡ cond (turnsOn word && not (protectsIn (c .shape) (levelsOf (now (levels .entry))) (g .0))) (filled 64 (c .pages) (g .0) (defaultMask word) (now (masks .entry))) (now (masks .entry)) ⌝ }
 {
     if turns_on(word) & !protects_at(c.shape, levels, g) {
         fill_masks(masks, c.pages, g, default_mask(word));
@@ -132,21 +112,51 @@ pub fn config(
     c: Scope,
     levels: &mut Levels,
     masks: &mut [u64; 256],
-    v: Processor,
     mode: u64,
     g: Level,
     word: u64,
 ) -> Answer
-    ensures answer { λ r. ⌜ r ≡ configAnswer c (levelsOf (now (levels .entry))) (v .0) mode (g .0) word ⌝ }
-    ensures levels { λ _. ⌜ (let xs = levelsOf (now (levels .entry)) in levelsOf (now (levels .exit)) ≡ ifDone (configAnswer c xs (v .0) mode (g .0) word) (configLevels c xs (g .0) word) xs) ⌝ }
-    ensures masks { λ _. ⌜ (let xs = levelsOf (now (levels .entry)) in now (masks .exit) ≡ ifDone (configAnswer c xs (v .0) mode (g .0) word) (configMasks c xs (g .0) word (now (masks .entry))) (now (masks .entry))) ⌝ }
+    ensures { λ r. ⌜ ((v : Maker) → Gives (Keeps c v mode (levelsOf (now (levels .entry))) (now (masks .entry))) (Made v mode (Config g word)) r (putParts (levelsOf (now (levels .exit))) (now (masks .exit)))) ⌝ }
 {
-    let answer = config_answer(c, levels, v, mode, g, word);
-    if is_done(answer) {
-        config_masks(c, levels, masks, g, word);
-        let mut x = level_at(c.shape, levels, g);
-        x.config = word;
-        put_level(levels, g, x);
+    if 15 < g.0 {
+        return Answer::Refused(Refusal::LevelOutOfRange);
     }
-    answer
+    if reserved_set(word) {
+        return Answer::Refused(Refusal::ReservedBits);
+    }
+    let mask = default_mask(word);
+    if !valid_mask(mask) {
+        return Answer::Refused(Refusal::InvalidMask);
+    }
+    if mode == 1 {
+        return Answer::Refused(Refusal::UserMode);
+    }
+    if g.0 == 0 {
+        return Answer::Refused(Refusal::LevelZero);
+    }
+    if c.shape.max_level.0 < g.0 {
+        return Answer::Refused(Refusal::AboveMaximum);
+    }
+    if c.actor < g.0 {
+        return Answer::Refused(Refusal::TargetAbove);
+    }
+    if !in_set(c.enabled, g.0) {
+        return Answer::Refused(Refusal::NotForPartition);
+    }
+    let on = protects_at(c.shape, levels, g);
+    if on & !turns_on(word) {
+        return Answer::Refused(Refusal::ProtectionsCleared);
+    }
+    let old = default_mask(config_at(c.shape, levels, g));
+    if on & !(mask == old) {
+        return Answer::Refused(Refusal::DefaultMaskChanged);
+    }
+    if kernel_only(mask) & in_set(c.mbec, g.0) {
+        return Answer::Refused(Refusal::KernelOnlyExecute);
+    }
+    config_masks(c, levels, masks, g, word);
+    let mut x = level_at(c.shape, levels, g);
+    x.config = word;
+    put_level(levels, g, x);
+    Answer::Done(0)
 }

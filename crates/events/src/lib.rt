@@ -1,5 +1,4 @@
 // The events, each decided from the parts of the state that it reads.
-pub mod access_events; // read, write, fetch
 pub mod answers; // the answer that conditions give
 pub mod level_events; // enpart, protect, config
 pub mod scope; // what an event is decided from

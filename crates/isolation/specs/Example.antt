@@ -6,9 +6,10 @@ use mathlib.Core.List.{List, [], _∷_}
 use Prim.Native.Nat.{ℕ}
 use lib.ListN.{replicate}
 use Rattle.model.specs.declared.answer.Answer.the-variants.{Done, Refused, Intercept}
-use Rattle.model.specs.declared.answer.Refusal.the-variants.{Malformed, UndefinedOpcode, NotPermitted}
+use Rattle.model.specs.declared.answer.Refusal.the-variants.{NoSuchProcessor, RcxNotZero, TargetAbove}
 use Rattle.model.specs.declared.event.Event.{Event}
-use Rattle.model.specs.declared.event.Event.the-variants.{Envp, Call, Read, Flush, Rreg, Wreg, Int}
+use Rattle.model.specs.declared.event.Action.the-variants.{Envp, Call, Read, Flush, Rreg, Wreg}
+use Rattle.model.specs.declared.event.Event.the-variants.{Made, Int}
 use Rattle.model.specs.declared.machine.Context.{Context}
 use Rattle.model.specs.declared.machine.PartitionLevel.{PartitionLevel}
 use Rattle.model.specs.declared.quantity.Page.{Page}
@@ -48,13 +49,13 @@ pageOf n = record { 0 = n }
 abbrev pub events : List Event
 events =
     -- RCX is set, so the call into level 1 is refused
-    Wreg (vpOf 0) 0 (level 0) 14 5 ∷ Call (vpOf 0) 0 3
+    Made (vpOf 0) 0 (Wreg (level 0) 14 5) ∷ Made (vpOf 0) 0 (Call 3)
     -- a read that is done, an event out of range, a register of a higher level
-    ∷ Read (vpOf 1) 0 (pageOf 0) ∷ Flush (vpOf 9) 0 ∷ Rreg (vpOf 0) 0 (level 1) 0
+    ∷ Made (vpOf 1) 0 (Read (pageOf 0)) ∷ Made (vpOf 9) 0 Flush ∷ Made (vpOf 0) 0 (Rreg (level 1) 0)
     -- level 2 is first enabled, on processor 1
-    ∷ Envp (vpOf 0) 0 (vpOf 1) (level 2) 4096 8192 1
+    ∷ Made (vpOf 0) 0 (Envp (vpOf 1) (level 2) 4096 8192 1)
     -- an interrupt enters level 1 on processor 0, an intercept on processor 1, and an interrupt enters level 2 there
-    ∷ Int (vpOf 0) (level 1) 48 ∷ Read (vpOf 1) 0 (pageOf 1) ∷ Int (vpOf 1) (level 2) 50 ∷ []
+    ∷ Int (vpOf 0) (level 1) 48 ∷ Made (vpOf 1) 0 (Read (pageOf 1)) ∷ Int (vpOf 1) (level 2) 50 ∷ []
 
 -- What the theorem says of them.
 abbrev pub one : State
@@ -67,7 +68,7 @@ pub record Instance : Type 0 where
   -- its hypotheses hold, so it holds
   pub isolated : Isolated 1 one two events
   -- the answers of the first run, and so those of the second
-  pub first-answers : answers one events ≡ Done 0 ∷ Refused UndefinedOpcode ∷ Done 5 ∷ Refused Malformed ∷ Refused NotPermitted ∷ Done 0 ∷ Done 1 ∷ Intercept (level 1) ∷ Done 1 ∷ []
+  pub first-answers : answers one events ≡ Done 0 ∷ Refused RcxNotZero ∷ Done 5 ∷ Refused NoSuchProcessor ∷ Refused TargetAbove ∷ Done 0 ∷ Done 1 ∷ Intercept (level 1) ∷ Done 1 ∷ []
   pub second-answers : answers two events ≡ answers one events
   -- RIP of level 1 on processor 0, RSP of level 2 there, and the word of page 1 stand as they began
   pub rip-kept : privateOf (shape (final two events)) (vp (final two events) 0) 1 0 ≡ 8

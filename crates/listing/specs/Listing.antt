@@ -13,7 +13,7 @@ use Rattle.model.specs.declared.answer.Answer.{Answer}
 use Rattle.model.specs.declared.answer.Answer.the-variants.{Refused}
 use Rattle.model.specs.declared.answer.Refusal.the-variants.{Malformed}
 use Rattle.model.specs.declared.event.Event.{Event}
-use Rattle.model.specs.declared.event.Event.the-variants.{Enpart, Envp, Call, Ret, Read, Write, Fetch, Protect, Config, Secure, Flush, Rreg, Wreg, Tpr, Ack, Int, Pstat, Vstat, Caps}
+use Rattle.model.specs.declared.event.Event.the-variants.{Made, Int}
 use Rattle.model.specs.declared.quantity.Processor.{Processor}
 use Rattle.script.specs.Events.{lineEvent}
 use Rattle.script.specs.First.{lineFirst}
@@ -27,25 +27,8 @@ use Rattle.model.specs.Step.{step}
 
 -- The processor that the level column is about: v, or w where no v is named.
 abbrev pub processorOf : Event → Processor
-processorOf (Enpart v mode t mbec) = v
-processorOf (Envp v mode w t rip rsp cr0) = v
-processorOf (Call v mode len) = v
-processorOf (Ret v mode len) = v
-processorOf (Read v mode p) = v
-processorOf (Write v mode p x) = v
-processorOf (Fetch v mode p) = v
-processorOf (Protect v mode p mask) = v
-processorOf (Config v mode g word) = v
-processorOf (Secure v mode l word) = v
-processorOf (Flush v mode) = v
-processorOf (Rreg v mode g r) = v
-processorOf (Wreg v mode g r x) = v
-processorOf (Tpr v mode class) = v
-processorOf (Ack v mode) = v
+processorOf (Made v mode a) = v
 processorOf (Int w g vector) = w
-processorOf (Pstat v mode) = v
-processorOf (Vstat v mode) = v
-processorOf (Caps v mode) = v
 
 -- The level now active on that processor, and 0 for answer 1.
 abbrev pub levelColumn : Outcome → Processor → ℕ

@@ -9,13 +9,15 @@ use model::answer::Refusal;
 use model::event::Event;
 use model::quantity::Level;
 use model::quantity::Processor;
-use request::request_of;
 
-// The processor that the level column is about: v, or w where no v is named. A request has it as its maker.
+// The processor that the level column is about: v, or w where no v is named.
 pub fn processor_of(e: Event) -> Processor
     ensures { λ r. ⌜ r ≡ processorOf e ⌝ }
 {
-    request_of(e).maker
+    match e {
+        Event::Made { vp, .. } => vp,
+        Event::Int { on, .. } => on,
+    }
 }
 
 // The number of a refusal.
@@ -24,17 +26,44 @@ pub fn refusal_number(r: Refusal) -> u64
 {
     match r {
         Refusal::Malformed => 1,
-        Refusal::UndefinedOpcode => 2,
-        Refusal::InvalidLevel => 3,
-        Refusal::NotPermitted => 4,
-        Refusal::AlreadyEnabled => 5,
-        Refusal::NotEnabled => 6,
-        Refusal::WriteOnce => 7,
+        Refusal::NoSuchProcessor => 1,
+        Refusal::NoSuchMode => 1,
+        Refusal::LevelOutOfRange => 1,
+        Refusal::MbecOutOfRange => 1,
+        Refusal::LengthOutOfRange => 1,
+        Refusal::ClassOutOfRange => 1,
+        Refusal::VectorOutOfRange => 1,
+        Refusal::NoSuchRegister => 1,
+        Refusal::NoSuchPage => 1,
+        Refusal::InvalidMask => 1,
+        Refusal::ReservedBits => 1,
+        Refusal::RealModeGiven => 1,
+        Refusal::UserMode => 2,
+        Refusal::RealMode => 2,
+        Refusal::RcxNotZero => 2,
+        Refusal::NoHigherLevel => 2,
+        Refusal::AtLevelZero => 2,
+        Refusal::RcxAboveOne => 2,
+        Refusal::LevelZero => 3,
+        Refusal::AboveMaximum => 3,
+        Refusal::TargetNotAbove => 4,
+        Refusal::TargetAbove => 4,
+        Refusal::TargetNotBelow => 4,
+        Refusal::NothingBelow => 4,
+        Refusal::EnabledForPartition => 5,
+        Refusal::EnabledOnProcessor => 5,
+        Refusal::NotForPartition => 6,
+        Refusal::NotOnProcessor => 6,
+        Refusal::ProtectionsOff => 6,
+        Refusal::NoMbec => 6,
+        Refusal::ProtectionsCleared => 7,
+        Refusal::DefaultMaskChanged => 7,
         Refusal::KernelOnlyExecute => 8,
         Refusal::NoReceiver => 10,
         Refusal::HostDenies => 11,
         Refusal::TlbLocked => 12,
-        Refusal::NoInterrupt => 13,
+        Refusal::NoneReady => 13,
+        Refusal::InterruptsOff => 13,
     }
 }
 

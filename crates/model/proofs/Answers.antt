@@ -11,16 +11,17 @@ use borrow.Author.Tests.{leb-true, leb-false, ltb-true, eqb-true, eqb-false, eq-
 use Rattle.model.specs.declared.answer.Answer.{Answer}
 use Rattle.model.specs.declared.answer.Answer.the-variants.{Done, Refused, Intercept}
 use Rattle.model.specs.declared.answer.Refusal.{Refusal}
-use Rattle.model.specs.declared.answer.Refusal.the-variants.{Malformed, UndefinedOpcode, InvalidLevel, NotPermitted, AlreadyEnabled, NotEnabled, WriteOnce, KernelOnlyExecute, NoReceiver, HostDenies, TlbLocked, NoInterrupt}
+use Rattle.model.specs.declared.answer.Refusal.the-variants.{Malformed, NoSuchProcessor, NoSuchMode, LevelOutOfRange, MbecOutOfRange, LengthOutOfRange, ClassOutOfRange, VectorOutOfRange, NoSuchRegister, NoSuchPage, InvalidMask, ReservedBits, RealModeGiven, UserMode, RealMode, RcxNotZero, NoHigherLevel, AtLevelZero, RcxAboveOne, LevelZero, AboveMaximum, TargetNotAbove, TargetAbove, TargetNotBelow, NothingBelow, EnabledForPartition, EnabledOnProcessor, NotForPartition, NotOnProcessor, ProtectionsOff, NoMbec, ProtectionsCleared, DefaultMaskChanged, KernelOnlyExecute, NoReceiver, HostDenies, TlbLocked, NoneReady, InterruptsOff}
 use Rattle.model.specs.declared.event.Event.{Event}
-use Rattle.model.specs.declared.event.Event.the-variants.{Enpart, Envp, Call, Ret, Read, Write, Fetch, Protect, Config, Secure, Flush, Rreg, Wreg, Tpr, Ack, Int, Pstat, Vstat, Caps}
+use Rattle.model.specs.declared.event.Action.the-variants.{Enpart, Envp, Call, Ret, Read, Write, Fetch, Protect, Config, Secure, Flush, Rreg, Wreg, Tpr, Ack, Pstat, Vstat, Caps}
+use Rattle.model.specs.declared.event.Event.the-variants.{Made, Int}
 use Rattle.model.specs.declared.quantity.Access.{Access}
 use Rattle.model.specs.Answers.{refusalNumber, numberOf, valueOf, firstOf}
 use Rattle.model.specs.Claims.{conditions, rises, applies, Rising, Smallest, Unchanged, Entered, OnlyEntered}
-use Rattle.model.specs.Events.{byAccess}
+use Rattle.model.specs.Events.{madeOn, byAccess}
 use Rattle.model.specs.Memory.{denies, receiver}
 use Rattle.model.specs.State.{State, processors, level, active, enabledOn}
-use Rattle.model.specs.Step.{Outcome, rule, maker, intercepted, nextFor, answered, ruled, step}
+use Rattle.model.specs.Step.{Outcome, rule, ruleOf, maker, intercepted, nextFor, answered, ruled, step}
 use Rattle.model.specs.WellFormed.{wellFormed}
 use Rattle.model.proofs.Bools.{and-left, and-right, or-elim}
 use Rattle.model.proofs.Bounded.{least-found}
@@ -71,13 +72,13 @@ module _ (P : Given) (refused : (r : Refusal) → P (λ a. Refused r)) where
       (λ e. a-refusal (c .0) (and-left (isRefusal (c .0)) (plain cs) p), λ e. plain-cases cs (and-right (isRefusal (c .0)) (plain cs) p) (λ q. f (e, q)))
 
   access-cases : (s : State) (v mode p : ℕ) (access : Access) → (leb (processors s) v ≡ false → ltb (receiver s v mode p access) 4 ≡ true → P (λ a. Intercept (level (receiver s v mode p access)))) →
-      (Passed (byAccess s v mode p access) → P (λ a. a)) → Cases P (byAccess s v mode p access)
+      (Passed (madeOn s v mode (byAccess s v mode p access)) → P (λ a. a)) → Cases P (madeOn s v mode (byAccess s v mode p access))
   access-cases s v mode p access taken f = (
-    λ _. refused Malformed,
+    λ _. refused NoSuchProcessor,
     λ inside. (
-      λ _. refused Malformed,
+      λ _. refused NoSuchMode,
       λ h₂. (
-        λ _. refused Malformed,
+        λ _. refused NoSuchPage,
         λ h₃. (
           λ h. taken inside h,
           λ h₉. (
@@ -96,29 +97,29 @@ module _ (P : Given) (refused : (r : Refusal) → P (λ a. Refused r)) where
 -- Every event's conditions are plain and rise, or are those of an access by its maker.
 data Kind (s : State) (e : Event) : Type 0 where
   ordinary : (plain (rule s e .refusals) && rises 1 (rule s e .refusals)) ≡ true → Kind s e
-  access : (v mode p : ℕ) (a : Access) → maker e ≡ some v → rule s e .refusals ≡ byAccess s v mode p a → Kind s e
+  access : (v mode p : ℕ) (a : Access) → maker e ≡ some v → rule s e .refusals ≡ madeOn s v mode (byAccess s v mode p a) → Kind s e
 
 kind : (s : State) (e : Event) → Kind s e
-unfolding rule maker
-kind s (Enpart v mode t mbec) = ordinary refl
-kind s (Envp v mode w t ip sp cr) = ordinary refl
-kind s (Call v mode len) = ordinary refl
-kind s (Ret v mode len) = ordinary refl
-kind s (Read v mode p) = access (v .0) mode (p .0) Access.Read refl refl
-kind s (Write v mode p x) = access (v .0) mode (p .0) Access.Write refl refl
-kind s (Fetch v mode p) = access (v .0) mode (p .0) Access.Fetch refl refl
-kind s (Protect v mode p k) = ordinary refl
-kind s (Config v mode g w) = ordinary refl
-kind s (Secure v mode l w) = ordinary refl
-kind s (Flush v mode) = ordinary refl
-kind s (Rreg v mode g r) = ordinary refl
-kind s (Wreg v mode g r x) = ordinary refl
-kind s (Tpr v mode class) = ordinary refl
-kind s (Ack v mode) = ordinary refl
+unfolding rule ruleOf maker
+kind s (Made v mode (Enpart t mbec)) = ordinary refl
+kind s (Made v mode (Envp w t ip sp cr)) = ordinary refl
+kind s (Made v mode (Call len)) = ordinary refl
+kind s (Made v mode (Ret len)) = ordinary refl
+kind s (Made v mode (Read p)) = access (v .0) mode (p .0) Access.Read refl refl
+kind s (Made v mode (Write p x)) = access (v .0) mode (p .0) Access.Write refl refl
+kind s (Made v mode (Fetch p)) = access (v .0) mode (p .0) Access.Fetch refl refl
+kind s (Made v mode (Protect p k)) = ordinary refl
+kind s (Made v mode (Config g w)) = ordinary refl
+kind s (Made v mode (Secure l w)) = ordinary refl
+kind s (Made v mode Flush) = ordinary refl
+kind s (Made v mode (Rreg g r)) = ordinary refl
+kind s (Made v mode (Wreg g r x)) = ordinary refl
+kind s (Made v mode (Tpr class)) = ordinary refl
+kind s (Made v mode Ack) = ordinary refl
 kind s (Int w g n) = ordinary refl
-kind s (Pstat v mode) = ordinary refl
-kind s (Vstat v mode) = ordinary refl
-kind s (Caps v mode) = ordinary refl
+kind s (Made v mode Pstat) = ordinary refl
+kind s (Made v mode Vstat) = ordinary refl
+kind s (Made v mode Caps) = ordinary refl
 
 -- An intercept: its maker's processor is there, and its receiver.
 pub record Taken (s : State) (e : Event) (l : ℕ) : Type 0 where
@@ -175,17 +176,44 @@ unchanged s e = step-cases s e (λ o. (numberOf (o .answer) ≡ 0 → ⊥) → (
 
 not-nine : (r : Refusal) → eqb (refusalNumber r) 9 ≡ false
 not-nine Malformed = refl
-not-nine UndefinedOpcode = refl
-not-nine InvalidLevel = refl
-not-nine NotPermitted = refl
-not-nine AlreadyEnabled = refl
-not-nine NotEnabled = refl
-not-nine WriteOnce = refl
+not-nine NoSuchProcessor = refl
+not-nine NoSuchMode = refl
+not-nine LevelOutOfRange = refl
+not-nine MbecOutOfRange = refl
+not-nine LengthOutOfRange = refl
+not-nine ClassOutOfRange = refl
+not-nine VectorOutOfRange = refl
+not-nine NoSuchRegister = refl
+not-nine NoSuchPage = refl
+not-nine InvalidMask = refl
+not-nine ReservedBits = refl
+not-nine RealModeGiven = refl
+not-nine UserMode = refl
+not-nine RealMode = refl
+not-nine RcxNotZero = refl
+not-nine NoHigherLevel = refl
+not-nine AtLevelZero = refl
+not-nine RcxAboveOne = refl
+not-nine LevelZero = refl
+not-nine AboveMaximum = refl
+not-nine TargetNotAbove = refl
+not-nine TargetAbove = refl
+not-nine TargetNotBelow = refl
+not-nine NothingBelow = refl
+not-nine EnabledForPartition = refl
+not-nine EnabledOnProcessor = refl
+not-nine NotForPartition = refl
+not-nine NotOnProcessor = refl
+not-nine ProtectionsOff = refl
+not-nine NoMbec = refl
+not-nine ProtectionsCleared = refl
+not-nine DefaultMaskChanged = refl
 not-nine KernelOnlyExecute = refl
 not-nine NoReceiver = refl
 not-nine HostDenies = refl
 not-nine TlbLocked = refl
-not-nine NoInterrupt = refl
+not-nine NoneReady = refl
+not-nine InterruptsOff = refl
 
 pub only-entered : OnlyEntered
 unfolding nextFor intercepted

@@ -11,10 +11,10 @@ use Rattle.model.specs.Masks.{protects}
 use Rattle.model.specs.Memory.{needed, mbecOn, denies, denied, receiver, hostDenies}
 use Rattle.model.specs.Registers.{isPrivate, privateOf, sharedOf, registerOf}
 use Rattle.model.specs.State.{processors, shape, top, maxLevel, pages, isLevel, isProcessor, isPage, vp, context, partitionLevel, activeOf, active, enabledAt, enabledOn, enabledFor, mbecFor, configOf, maskOf, hostMask, wordOf, secureOf, isPending}
-use Rattle.model.specs.Step.{rule, maker, intercepted, nextFor, ruled, step, final}
+use Rattle.model.specs.Step.{rule, ruleOf, maker, intercepted, nextFor, ruled, step, final}
 use Rattle.model.specs.Updates.{putMasks, setMask, filled, fillMasks, putContext, setShared, setPrivate, setRegister, setTpr, setPending, setSecure, cleared, unlocked, putVp, putLevel, setWord}
 use Rattle.model.specs.WellFormed.{wellSized, wellEntered, wellFormedContext, wellFormedVp, wellFormedLevel, wellFormedParts, wellModed, wellFormed}
 
 pub all-given : AllGiven
-unfolding every any least highest bits allOf numberAt stored firstOf enter isReady highestReady nextUp advanced called restored waiting reentered left returned enters interrupted started acknowledged onVp onLevel own locked fresh protects configured needed mbecOn denies denied receiver hostDenies isPrivate privateOf sharedOf registerOf processors shape top maxLevel pages isLevel isProcessor isPage vp context partitionLevel activeOf active enabledAt enabledOn enabledFor mbecFor configOf maskOf hostMask wordOf secureOf isPending rule maker intercepted nextFor ruled step final putMasks setMask filled fillMasks putContext setShared setPrivate setRegister setTpr setPending setSecure cleared unlocked putVp putLevel setWord wellSized wellEntered wellFormedContext wellFormedVp wellFormedLevel wellFormedParts wellModed wellFormed
+unfolding every any least highest bits allOf numberAt stored firstOf enter isReady highestReady nextUp advanced called restored waiting reentered left returned enters interrupted started acknowledged onVp onLevel own locked fresh protects configured needed mbecOn denies denied receiver hostDenies isPrivate privateOf sharedOf registerOf processors shape top maxLevel pages isLevel isProcessor isPage vp context partitionLevel activeOf active enabledAt enabledOn enabledFor mbecFor configOf maskOf hostMask wordOf secureOf isPending rule ruleOf maker intercepted nextFor ruled step final putMasks setMask filled fillMasks putContext setShared setPrivate setRegister setTpr setPending setSecure cleared unlocked putVp putLevel setWord wellSized wellEntered wellFormedContext wellFormedVp wellFormedLevel wellFormedParts wellModed wellFormed
 all-given = refl

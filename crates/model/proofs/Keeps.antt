@@ -9,7 +9,8 @@ use lib.Dec.{leb, ltb, eqb}
 use borrow.Author.Tests.{lt-ltb, le-leb, ne-eqb, ltb-true, ltb-false, eqb-true, eqb-false, not-true, not-false}
 use Rattle.word.specs.Field.{bit}
 use Rattle.model.specs.declared.event.Event.{Event}
-use Rattle.model.specs.declared.event.Event.the-variants.{Enpart, Envp, Call, Ret, Read, Write, Fetch, Protect, Config, Secure, Flush, Rreg, Wreg, Tpr, Ack, Int, Pstat, Vstat, Caps}
+use Rattle.model.specs.declared.event.Action.the-variants.{Enpart, Envp, Call, Ret, Read, Write, Fetch, Protect, Config, Secure, Flush, Rreg, Wreg, Tpr, Ack, Pstat, Vstat, Caps}
+use Rattle.model.specs.declared.event.Event.the-variants.{Made, Int}
 use Rattle.model.specs.declared.machine.PartitionLevel.{PartitionLevel}
 use Rattle.model.specs.declared.machine.Shape.{Shape}
 use Rattle.model.specs.declared.machine.VirtualProcessor.{VirtualProcessor}
@@ -20,7 +21,7 @@ use Rattle.model.specs.Entry.{enter, called, returned, interrupted, star
 use Rattle.model.specs.Events.{onVp, onLevel, configured}
 use Rattle.model.specs.Masks.{validMask, kernelOnly, defaultMask, turnsOn, reservedSet, secureReservedSet, protects}
 use Rattle.model.specs.State.{State, processors, shape, top, maxLevel, pages, isLevel, isProcessor, isPage, vp, context, partitionLevel, activeOf, active, enabledAt, enabledOn, enabledFor, mbecFor, configOf, maskOf, mbecBit}
-use Rattle.model.specs.Step.{rule, maker, intercepted, nextFor, step}
+use Rattle.model.specs.Step.{rule, ruleOf, maker, intercepted, nextFor, step}
 use Rattle.model.specs.Updates.{withEnabled, withConfig, setRegister, setTpr, setSecure, putVp, putLevel, putMasks, setMask, filled, fillMasks, setWord}
 use Rattle.model.specs.WellFormed.{wellSized, wellFormedVp, wellFormedLevel, wellFormedParts, wellModed, wellFormed}
 use Rattle.model.proofs.Answers.{Passed, Taken, step-cases}
@@ -298,32 +299,32 @@ module _ (s : State) (w : wellFormed s ≡ true) where
       contra false h = refl
 
   effect-parts : (e : Event) → Passed (rule s e .refusals) → wellFormedParts (rule s e .effect) ≡ true
-  unfolding rule active
-  effect-parts (Enpart v mode t mbec) ps = enable-parts (t .0) (eqb mbec 1) (positive (t .0) search) (is-level s w (t .0) search) search
-  effect-parts (Envp v mode u t ip sp cr) ps = onVp-parts s (u .0) (λ z p. started z p (t .0) ip sp cr) parts (λ i g. Sound.started-sound (shape s) (enabledFor s) (mbecFor s) (vp s (u .0)) (t .0) ip sp cr (is-level s w (t .0) search) (positive (t .0) search) (not-false (enabledFor s (t .0)) search) g)
-  effect-parts (Call v mode len) ps = onVp-parts s (v .0) (λ z p. called z p len) parts (λ i g. Sound.called-sound (shape s) (enabledFor s) (mbecFor s) (vp s (v .0)) len (search) g)
-  effect-parts (Ret v mode len) ps = onVp-parts s (v .0) (λ z p. returned z p len) parts (λ i g. Sound.returned-sound (shape s) (enabledFor s) (mbecFor s) (vp s (v .0)) len (positive (activeOf (vp s (v .0))) search) g)
-  effect-parts (Read v mode p) ps = parts
-  effect-parts (Write v mode p x) ps = unfold setWord wellFormedParts wellFormedVp wellFormedLevel isProcessor processors shape vp enabledFor mbecFor partitionLevel maskOf isPage pages in parts
-  effect-parts (Fetch v mode p) ps = parts
-  effect-parts (Protect v mode p m) ps = setMask-parts s (activeOf (vp s (v .0))) (p .0) m parts (below-four _ (active-level s w (v .0) (is-processor s w (v .0) search))) (not-false (validMask m) search) search
-  effect-parts (Config v mode g x) ps = configured-parts s (g .0) x parts (positive (g .0) search) (below-four _ (is-level s w (g .0) search)) (not-false (enabledFor s (g .0)) search) (search) (not-false (validMask (defaultMask x)) search) (search)
-  effect-parts (Secure v mode l x) ps =
+  unfolding rule ruleOf active
+  effect-parts (Made v mode (Enpart t mbec)) ps = enable-parts (t .0) (eqb mbec 1) (positive (t .0) search) (is-level s w (t .0) search) search
+  effect-parts (Made v mode (Envp u t ip sp cr)) ps = onVp-parts s (u .0) (λ z p. started z p (t .0) ip sp cr) parts (λ i g. Sound.started-sound (shape s) (enabledFor s) (mbecFor s) (vp s (u .0)) (t .0) ip sp cr (is-level s w (t .0) search) (positive (t .0) search) (not-false (enabledFor s (t .0)) search) g)
+  effect-parts (Made v mode (Call len)) ps = onVp-parts s (v .0) (λ z p. called z p len) parts (λ i g. Sound.called-sound (shape s) (enabledFor s) (mbecFor s) (vp s (v .0)) len (search) g)
+  effect-parts (Made v mode (Ret len)) ps = onVp-parts s (v .0) (λ z p. returned z p len) parts (λ i g. Sound.returned-sound (shape s) (enabledFor s) (mbecFor s) (vp s (v .0)) len (positive (activeOf (vp s (v .0))) search) g)
+  effect-parts (Made v mode (Read p)) ps = parts
+  effect-parts (Made v mode (Write p x)) ps = unfold setWord wellFormedParts wellFormedVp wellFormedLevel isProcessor processors shape vp enabledFor mbecFor partitionLevel maskOf isPage pages in parts
+  effect-parts (Made v mode (Fetch p)) ps = parts
+  effect-parts (Made v mode (Protect p m)) ps = setMask-parts s (activeOf (vp s (v .0))) (p .0) m parts (below-four _ (active-level s w (v .0) (is-processor s w (v .0) search))) (not-false (validMask m) search) search
+  effect-parts (Made v mode (Config g x)) ps = configured-parts s (g .0) x parts (positive (g .0) search) (below-four _ (is-level s w (g .0) search)) (not-false (enabledFor s (g .0)) search) (search) (not-false (validMask (defaultMask x)) search) (search)
+  effect-parts (Made v mode (Secure l x)) ps =
       let legal : secureReservedSet x ≡ false = search in
       let mbec : (bit x mbecBit && not (mbecFor s (activeOf (vp s (v .0))))) ≡ false = search in
       onVp-parts s (v .0) (λ z p. setSecure z p (activeOf p) (l .0) x) parts (λ i g. Sound.setSecure-sound (shape s) (enabledFor s) (mbecFor s) (vp s (v .0)) (activeOf (vp s (v .0))) (l .0) x (active-level s w (v .0) i)
       (both (not (secureReservedSet x)) _ (rw legal) (implies-test (bit x mbecBit) _ (λ b. not-false (mbecFor s (activeOf (vp s (v .0)))) (and-not (bit x mbecBit) _ mbec b)))) g)
-  effect-parts (Flush v mode) ps = parts
-  effect-parts (Rreg v mode g r) ps = parts
-  effect-parts (Wreg v mode g r x) ps = onVp-parts s (v .0) (λ z p. setRegister z p (g .0) r x) parts (λ i h. Sound.setRegister-sound (shape s) (enabledFor s) (mbecFor s) (vp s (v .0)) (g .0) r x (is-level s w (g .0) search) h)
-  effect-parts (Tpr v mode class) ps =
+  effect-parts (Made v mode Flush) ps = parts
+  effect-parts (Made v mode (Rreg g r)) ps = parts
+  effect-parts (Made v mode (Wreg g r x)) ps = onVp-parts s (v .0) (λ z p. setRegister z p (g .0) r x) parts (λ i h. Sound.setRegister-sound (shape s) (enabledFor s) (mbecFor s) (vp s (v .0)) (g .0) r x (is-level s w (g .0) search) h)
+  effect-parts (Made v mode (Tpr class)) ps =
       let legal : ltb 15 class ≡ false = search in
       onVp-parts s (v .0) (λ z p. setTpr z p (activeOf p) class) parts (λ i g. Sound.setTpr-sound (shape s) (enabledFor s) (mbecFor s) (vp s (v .0)) (activeOf (vp s (v .0))) class (active-level s w (v .0) i) (le-leb class 15 (ltb-false 15 class legal)) g)
-  effect-parts (Ack v mode) ps = onVp-parts s (v .0) acknowledged parts (λ i g. Sound.acknowledged-sound (shape s) (enabledFor s) (mbecFor s) (vp s (v .0)) (search) g)
+  effect-parts (Made v mode Ack) ps = onVp-parts s (v .0) acknowledged parts (λ i g. Sound.acknowledged-sound (shape s) (enabledFor s) (mbecFor s) (vp s (v .0)) (search) g)
   effect-parts (Int u g n) ps = onVp-parts s (u .0) (λ z p. interrupted z p (g .0) n) parts (λ i h. Sound.interrupted-sound (shape s) (enabledFor s) (mbecFor s) (vp s (u .0)) (g .0) n (ltb-false n 16 search) (unfold enabledOn in not-false (enabledOn s (u .0) (g .0)) search) h)
-  effect-parts (Pstat v mode) ps = parts
-  effect-parts (Vstat v mode) ps = parts
-  effect-parts (Caps v mode) ps = parts
+  effect-parts (Made v mode Pstat) ps = parts
+  effect-parts (Made v mode Vstat) ps = parts
+  effect-parts (Made v mode Caps) ps = parts
 
   intercepted-parts : (e : Event) (l : ℕ) → Taken s e l → wellFormedParts (intercepted s (maker e) l) ≡ true
   intercepted-parts e l t = rw (t .made) (unfold intercepted in onVp-parts s (t .v) (λ z p. enter z p l byInterrupt) parts (λ i g. Sound.enter-sound (shape s) (enabledFor s) (mbecFor s) (vp s (t .v)) l byInterrupt refl refl (unfold active in t .above) (unfold enabledOn in t .enabled) g))

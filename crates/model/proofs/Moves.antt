@@ -12,7 +12,8 @@ use lib.Seq.{getD-set-other}
 use borrow.Author.Tests.{lt-ltb, lt-leb, eq-eqb, ltb-true, ltb-false, leb-true, not-false}
 use Rattle.word.specs.Field.{bit}
 use Rattle.model.specs.declared.event.Event.{Event}
-use Rattle.model.specs.declared.event.Event.the-variants.{Enpart, Envp, Call, Ret, Read, Write, Fetch, Protect, Config, Secure, Flush, Rreg, Wreg, Tpr, Ack, Int, Pstat, Vstat, Caps}
+use Rattle.model.specs.declared.event.Action.the-variants.{Enpart, Envp, Call, Ret, Read, Write, Fetch, Protect, Config, Secure, Flush, Rreg, Wreg, Tpr, Ack, Pstat, Vstat, Caps}
+use Rattle.model.specs.declared.event.Event.the-variants.{Made, Int}
 use Rattle.model.specs.declared.machine.Context.{Context}
 use Rattle.model.specs.declared.machine.PartitionLevel.{PartitionLevel}
 use Rattle.model.specs.declared.machine.Shape.{Shape}
@@ -25,7 +26,7 @@ use Rattle.model.specs.Masks.{readBit, writeBit, turnsOn, defaultMask, p
 use Rattle.model.specs.Memory.{needed}
 use Rattle.model.specs.Registers.{rip, cr0, rax, rcx, protectedBit, isPrivate, privateOf, sharedOf}
 use Rattle.model.specs.State.{State, noContext, pastContext, noVp, pastVp, noLevel, processors, shape, top, pages, isLevel, isProcessor, isPage, vp, context, partitionLevel, activeOf, active, enabledAt, enabledOn, configOf, maskOf, hostMask, wordOf}
-use Rattle.model.specs.Step.{rule, maker, intercepted, nextFor, step}
+use Rattle.model.specs.Step.{rule, ruleOf, maker, intercepted, nextFor, step}
 use Rattle.model.specs.Updates.{withControl, withActive, withConfig, withEnabled, putContext, setShared, setPrivate, setRegister, setTpr, setPending, setSecure, unlocked, putVp, putLevel, putMasks, setMask, filled, fillMasks, setWord}
 use Rattle.model.specs.WellFormed.{wellModed, wellFormed}
 use Rattle.model.proofs.Answers.{Passed, step-cases}
@@ -320,32 +321,32 @@ module _ (K : ℕ) (k : 1 ≤ K) (s : State) where
   low v c = unfold active in maker-low K (enabledOn s) (closed K s) k s v c
 
   effect-moved : wellFormed s ≡ true → (e : Event) → quietMaker K s (maker e) ≡ true → Passed (rule s e .refusals) → Moved K s (rule s e .effect)
-  unfolding rule maker active
-  effect-moved w (Enpart v mode t mbec) c ps = onLevel-moved K s (t .0) (λ x. withEnabled x (eqb mbec 1)) (λ i. refl)
-  effect-moved w (Envp v mode u t ip sp cr) c ps = onVp-moved K s (u .0) (λ z p. started z p (t .0) ip sp cr) (started-turned K (shape s) (vp s (u .0)) (t .0) ip sp cr (unfold enabledOn in search) (not-false (bit cr protectedBit) search))
-  effect-moved w (Call v mode len) c ps = onVp-moved K s (v .0) (λ z p. called z p len) (called-turned K (shape s) (vp s (v .0)) len (low (v .0) c))
-  effect-moved w (Ret v mode len) c ps = onVp-moved K s (v .0) (λ z p. returned z p len) (returned-turned K (shape s) (vp s (v .0)) len (low (v .0) c))
-  effect-moved w (Read v mode p) c ps = same-moved K s
-  effect-moved w (Write v mode p x) c ps =
+  unfolding rule ruleOf maker active
+  effect-moved w (Made v mode (Enpart t mbec)) c ps = onLevel-moved K s (t .0) (λ x. withEnabled x (eqb mbec 1)) (λ i. refl)
+  effect-moved w (Made v mode (Envp u t ip sp cr)) c ps = onVp-moved K s (u .0) (λ z p. started z p (t .0) ip sp cr) (started-turned K (shape s) (vp s (u .0)) (t .0) ip sp cr (unfold enabledOn in search) (not-false (bit cr protectedBit) search))
+  effect-moved w (Made v mode (Call len)) c ps = onVp-moved K s (v .0) (λ z p. called z p len) (called-turned K (shape s) (vp s (v .0)) len (low (v .0) c))
+  effect-moved w (Made v mode (Ret len)) c ps = onVp-moved K s (v .0) (λ z p. returned z p len) (returned-turned K (shape s) (vp s (v .0)) len (low (v .0) c))
+  effect-moved w (Made v mode (Read p)) c ps = same-moved K s
+  effect-moved w (Made v mode (Write p x)) c ps =
       setWord-moved K s (p .0) x (open-page K (enabledOn s) (closed K s) k s w (λ v l h. h) (λ p. refl) Access.Write writeBit (unfold needed in λ m mode. refl) read-of-write (v .0) mode (p .0) (low (v .0) c) (search) (search))
-  effect-moved w (Fetch v mode p) c ps = same-moved K s
-  effect-moved w (Protect v mode p m) c ps = setMask-moved K s (active s (v .0)) (p .0) m (low (v .0) c)
-  effect-moved w (Config v mode g x) c ps = let a : activeOf (vp s (v .0)) < K = low (v .0) c in configured-moved K s (g .0) x (let b : g .0 ≤ activeOf (vp s (v .0)) = ltb-false _ _ search in omega arith)
-  effect-moved w (Secure v mode l x) c ps = onVp-moved K s (v .0) (λ z p. setSecure z p (activeOf p) (l .0) x) (setSecure-turned K (shape s) (vp s (v .0)) _ (l .0) x)
-  effect-moved w (Flush v mode) c ps = same-moved K s
-  effect-moved w (Rreg v mode g r) c ps = same-moved K s
-  effect-moved w (Wreg v mode g r x) c ps =
+  effect-moved w (Made v mode (Fetch p)) c ps = same-moved K s
+  effect-moved w (Made v mode (Protect p m)) c ps = setMask-moved K s (active s (v .0)) (p .0) m (low (v .0) c)
+  effect-moved w (Made v mode (Config g x)) c ps = let a : activeOf (vp s (v .0)) < K = low (v .0) c in configured-moved K s (g .0) x (let b : g .0 ≤ activeOf (vp s (v .0)) = ltb-false _ _ search in omega arith)
+  effect-moved w (Made v mode (Secure l x)) c ps = onVp-moved K s (v .0) (λ z p. setSecure z p (activeOf p) (l .0) x) (setSecure-turned K (shape s) (vp s (v .0)) _ (l .0) x)
+  effect-moved w (Made v mode Flush) c ps = same-moved K s
+  effect-moved w (Made v mode (Rreg g r)) c ps = same-moved K s
+  effect-moved w (Made v mode (Wreg g r x)) c ps =
       let a : activeOf (vp s (v .0)) < K = low (v .0) c in
       let b : g .0 ≤ activeOf (vp s (v .0)) = ltb-false _ _ search in
       let legal : (eqb r cr0 && ltb 0 (g .0) && not (bit x protectedBit)) ≡ false = search in
       onVp-moved K s (v .0) (λ z p. setRegister z p (g .0) r x) (setRegister-turned K (shape s) (vp s (v .0)) (g .0) r x (omega arith)
       (λ o q. not-false (bit x protectedBit) (and-not (eqb r cr0 && ltb 0 (g .0)) (not (bit x protectedBit)) legal (rw (eq-eqb r cr0 q, lt-ltb 0 (g .0) o)))))
-  effect-moved w (Tpr v mode class) c ps = onVp-moved K s (v .0) (λ z p. setTpr z p (activeOf p) class) (setTpr-turned K (shape s) (vp s (v .0)) _ class)
-  effect-moved w (Ack v mode) c ps = onVp-moved K s (v .0) acknowledged (acknowledged-turned K (shape s) (vp s (v .0)))
+  effect-moved w (Made v mode (Tpr class)) c ps = onVp-moved K s (v .0) (λ z p. setTpr z p (activeOf p) class) (setTpr-turned K (shape s) (vp s (v .0)) _ class)
+  effect-moved w (Made v mode Ack) c ps = onVp-moved K s (v .0) acknowledged (acknowledged-turned K (shape s) (vp s (v .0)))
   effect-moved w (Int u g n) c ps = onVp-moved K s (u .0) (λ z p. interrupted z p (g .0) n) (interrupted-turned K (shape s) (vp s (u .0)) (g .0) n)
-  effect-moved w (Pstat v mode) c ps = same-moved K s
-  effect-moved w (Vstat v mode) c ps = same-moved K s
-  effect-moved w (Caps v mode) c ps = same-moved K s
+  effect-moved w (Made v mode Pstat) c ps = same-moved K s
+  effect-moved w (Made v mode Vstat) c ps = same-moved K s
+  effect-moved w (Made v mode Caps) c ps = same-moved K s
 
   intercepted-moved : (m : Option ℕ) (l : ℕ) → Moved K s (intercepted s m l)
   unfolding intercepted

@@ -12,7 +12,8 @@ use Rattle.word.specs.Field.{bit}
 use Rattle.model.specs.declared.answer.Answer.the-variants.{Done, Refused, Intercept}
 use Rattle.model.specs.declared.answer.Refusal.the-variants.{Malformed}
 use Rattle.model.specs.declared.event.Event.{Event}
-use Rattle.model.specs.declared.event.Event.the-variants.{Enpart, Envp, Call, Ret, Read, Write, Fetch, Protect, Config, Secure, Flush, Rreg, Wreg, Tpr, Ack, Int, Pstat, Vstat, Caps}
+use Rattle.model.specs.declared.event.Action.the-variants.{Enpart, Envp, Call, Ret, Read, Write, Fetch, Protect, Config, Secure, Flush, Rreg, Wreg, Tpr, Ack, Pstat, Vstat, Caps}
+use Rattle.model.specs.declared.event.Event.the-variants.{Made, Int}
 use Rattle.model.specs.declared.machine.Shape.{Shape}
 use Rattle.model.specs.declared.machine.VirtualProcessor.{VirtualProcessor}
 use Rattle.model.specs.declared.quantity.Access.{Access}
@@ -24,7 +25,7 @@ use Rattle.model.specs.Masks.{validMask, readBit, writeBit, secureReserv
 use Rattle.model.specs.Memory.{needed, mbecOn, denies, denied, receiver, hostDenies}
 use Rattle.model.specs.Registers.{cr0, rflags, rcx, protectedBit, isPrivate, privateOf, sharedOf}
 use Rattle.model.specs.State.{State, level, processors, shape, pages, isProcessor, vp, context, partitionLevel, activeOf, active, enabledAt, enabledOn, maskOf, hostMask, secureOf, mbecBit}
-use Rattle.model.specs.Step.{Outcome, rule, maker, intercepted, nextFor, answered, ruled, step}
+use Rattle.model.specs.Step.{Outcome, rule, ruleOf, maker, intercepted, nextFor, answered, ruled, step}
 use Rattle.model.specs.Updates.{withEnabled, setRegister, setTpr, setSecure}
 use Rattle.model.specs.WellFormed.{wellSized, wellFormedContext, wellFormedVp, wellFormedLevel, wellFormedParts, wellModed, wellFormed}
 use Rattle.model.proofs.Answers.{Passed, Taken, condition-cases}
@@ -171,26 +172,26 @@ module _ (K : ℕ) (E : ℕ → ℕ → Bool) (H : ℕ → Bool) where
       go false e d = ltb-true (active s v) K d
 
   refusals-same : 1 ≤ K → (s : State) (e : Event) → quietMaker K s (maker e) ≡ true → rule (hide K E H s) e .refusals ≡ rule s e .refusals
-  unfolding rule maker isPrivate
-  refusals-same k s (Enpart v mode t mbec) c = simp Same
-  refusals-same k s (Envp v mode w t ip sp cr) c = simp Same
-  refusals-same k s (Call v mode len) c = let low : active s (v .0) < K = maker-low k s (v .0) c in simp (processors-same, nextUp-hide, own-same s (v .0) cr0 low refl, rcx-same)
-  refusals-same k s (Ret v mode len) c = simp (Same, rcx-same)
-  refusals-same k s (Read v mode p) c = simp (Same, receiver-same, denied-same, hostDenies-same)
-  refusals-same k s (Write v mode p x) c = simp (Same, receiver-same, denied-same, hostDenies-same)
-  refusals-same k s (Fetch v mode p) c = simp (Same, receiver-same, denied-same, hostDenies-same)
-  refusals-same k s (Protect v mode p m) c = simp Same
-  refusals-same k s (Config v mode g w) c = simp Same
-  refusals-same k s (Secure v mode l w) c = simp Same
-  refusals-same k s (Flush v mode) c = simp (Same, locked-same)
-  refusals-same k s (Rreg v mode g r) c = simp Same
-  refusals-same k s (Wreg v mode g r x) c = simp Same
-  refusals-same k s (Tpr v mode class) c = simp Same
-  refusals-same k s (Ack v mode) c = let low : active s (v .0) < K = maker-low k s (v .0) c in simp (processors-same, active-hide, highest-hide, own-same s (v .0) rflags low refl)
+  unfolding rule ruleOf maker isPrivate
+  refusals-same k s (Made v mode (Enpart t mbec)) c = simp Same
+  refusals-same k s (Made v mode (Envp w t ip sp cr)) c = simp Same
+  refusals-same k s (Made v mode (Call len)) c = let low : active s (v .0) < K = maker-low k s (v .0) c in simp (processors-same, nextUp-hide, own-same s (v .0) cr0 low refl, rcx-same)
+  refusals-same k s (Made v mode (Ret len)) c = simp (Same, rcx-same)
+  refusals-same k s (Made v mode (Read p)) c = simp (Same, receiver-same, denied-same, hostDenies-same)
+  refusals-same k s (Made v mode (Write p x)) c = simp (Same, receiver-same, denied-same, hostDenies-same)
+  refusals-same k s (Made v mode (Fetch p)) c = simp (Same, receiver-same, denied-same, hostDenies-same)
+  refusals-same k s (Made v mode (Protect p m)) c = simp Same
+  refusals-same k s (Made v mode (Config g w)) c = simp Same
+  refusals-same k s (Made v mode (Secure l w)) c = simp Same
+  refusals-same k s (Made v mode Flush) c = simp (Same, locked-same)
+  refusals-same k s (Made v mode (Rreg g r)) c = simp Same
+  refusals-same k s (Made v mode (Wreg g r x)) c = simp Same
+  refusals-same k s (Made v mode (Tpr class)) c = simp Same
+  refusals-same k s (Made v mode Ack) c = let low : active s (v .0) < K = maker-low k s (v .0) c in simp (processors-same, active-hide, highest-hide, own-same s (v .0) rflags low refl)
   refusals-same k s (Int w g n) c = simp Same
-  refusals-same k s (Pstat v mode) c = simp Same
-  refusals-same k s (Vstat v mode) c = simp Same
-  refusals-same k s (Caps v mode) c = simp Same
+  refusals-same k s (Made v mode Pstat) c = simp Same
+  refusals-same k s (Made v mode Vstat) c = simp Same
+  refusals-same k s (Made v mode Caps) c = simp Same
 
   abbrev pub hideOutcome : Outcome → Outcome
   hideOutcome o = record { answer = o .answer; next = hide K E H (o .next) }
@@ -222,71 +223,71 @@ module _ (K : ℕ) (E : ℕ → ℕ → Bool) (H : ℕ → Bool) where
     positive n h = let d : (n ≡ 0 → ⊥) = eqb-false n 0 h in omega arith
 
     effect-hide : (e : Event) → quietMaker K s (maker e) ≡ true → Passed (rule s e .refusals) → rule (hide K E H s) e .effect ≡ hide K E H (rule s e .effect)
-    unfolding rule maker active
-    effect-hide (Enpart v mode t mbec) c ps = onLevel-hide K E H s (t .0) (λ x. withEnabled x (eqb mbec 1)) (is-level s w (t .0) search) (unfold hidePartition in refl)
-    effect-hide (Envp v mode u t ip sp cr) c ps =
+    unfolding rule ruleOf maker active
+    effect-hide (Made v mode (Enpart t mbec)) c ps = onLevel-hide K E H s (t .0) (λ x. withEnabled x (eqb mbec 1)) (is-level s w (t .0) search) (unfold hidePartition in refl)
+    effect-hide (Made v mode (Envp u t ip sp cr)) c ps =
         onVp-hide K E H s (u .0) (λ z p. started z p (t .0) ip sp cr) (is-processor s w (u .0) search) (Visible.started-hide K (E (u .0)) (shape s) (vp s (u .0)) (t .0) ip sp cr (is-level s w (t .0) search) (not-grown (u .0) (t .0) search))
-    effect-hide (Call v mode len) c ps =
+    effect-hide (Made v mode (Call len)) c ps =
         let inside = is-processor s w (v .0) search in
         onVp-hide K E H s (v .0) (λ z p. called z p len) inside (Visible.called-hide K (E (v .0)) (shape s) (vp s (v .0)) len (maker-low k s (v .0) c) (active-level s w (v .0) inside) search)
-    effect-hide (Ret v mode len) c ps =
+    effect-hide (Made v mode (Ret len)) c ps =
         let inside = is-processor s w (v .0) search in
         let above : 0 < activeOf (vp s (v .0)) = positive (activeOf (vp s (v .0))) search in
         onVp-hide K E H s (v .0) (λ z p. returned z p len) inside (Visible.returned-hide K (E (v .0)) (shape s) (vp s (v .0)) len (maker-low k s (v .0) c) (active-level s w (v .0) inside) above)
-    effect-hide (Read v mode p) c ps = refl
-    effect-hide (Write v mode p x) c ps = setWord-hide K E H s (p .0) x (open-page Access.Write writeBit (unfold needed in λ m mode. refl) read-of-write (v .0) mode (p .0) (maker-low k s (v .0) c) (search) (search))
-    effect-hide (Fetch v mode p) c ps = refl
-    effect-hide (Protect v mode p m) c ps =
+    effect-hide (Made v mode (Read p)) c ps = refl
+    effect-hide (Made v mode (Write p x)) c ps = setWord-hide K E H s (p .0) x (open-page Access.Write writeBit (unfold needed in λ m mode. refl) read-of-write (v .0) mode (p .0) (maker-low k s (v .0) c) (search) (search))
+    effect-hide (Made v mode (Fetch p)) c ps = refl
+    effect-hide (Made v mode (Protect p m)) c ps =
         rw active-hide (Whole.setMask-hide K E H s (active s (v .0)) (p .0) m (positive _ search) (active-level s w (v .0) (is-processor s w (v .0) search)) (is-page s w (p .0) search))
-    effect-hide (Config v mode g x) c ps = Whole.configured-hide K E H s (g .0) x (positive _ search) (is-level s w (g .0) search)
-    effect-hide (Secure v mode l x) c ps =
+    effect-hide (Made v mode (Config g x)) c ps = Whole.configured-hide K E H s (g .0) x (positive _ search) (is-level s w (g .0) search)
+    effect-hide (Made v mode (Secure l x)) c ps =
         let inside = is-processor s w (v .0) search in
         onVp-hide K E H s (v .0) (λ z p. setSecure z p (activeOf p) (l .0) x) inside (rw Visible.active-same (Visible.setSecure-hide K (E (v .0)) (shape s) (vp s (v .0)) (activeOf (vp s (v .0))) (l .0) x (active-level s w (v .0) inside) (leb-false _ _ search)))
-    effect-hide (Flush v mode) c ps = refl
-    effect-hide (Rreg v mode g r) c ps = refl
-    effect-hide (Wreg v mode g r x) c ps =
+    effect-hide (Made v mode Flush) c ps = refl
+    effect-hide (Made v mode (Rreg g r)) c ps = refl
+    effect-hide (Made v mode (Wreg g r x)) c ps =
         let low : activeOf (vp s (v .0)) < K = maker-low k s (v .0) c in
         let below : g .0 ≤ activeOf (vp s (v .0)) = ltb-false _ _ search in
         onVp-hide K E H s (v .0) (λ z p. setRegister z p (g .0) r x) (is-processor s w (v .0) search) (Visible.setRegister-hide K (E (v .0)) (shape s) (vp s (v .0)) (g .0) r x (omega arith) (is-level s w (g .0) search))
-    effect-hide (Tpr v mode class) c ps =
+    effect-hide (Made v mode (Tpr class)) c ps =
         let inside = is-processor s w (v .0) search in
         onVp-hide K E H s (v .0) (λ z p. setTpr z p (activeOf p) class) inside (rw Visible.active-same (Visible.setTpr-hide K (E (v .0)) (shape s) (vp s (v .0)) (activeOf (vp s (v .0))) class (active-level s w (v .0) inside)))
-    effect-hide (Ack v mode) c ps =
+    effect-hide (Made v mode Ack) c ps =
         let inside = is-processor s w (v .0) search in
         onVp-hide K E H s (v .0) acknowledged inside (Visible.acknowledged-hide K (E (v .0)) (shape s) (vp s (v .0)) (active-level s w (v .0) inside))
     effect-hide (Int u g n) c ps =
         onVp-hide K E H s (u .0) (λ z p. interrupted z p (g .0) n) (is-processor s w (u .0) search) (Visible.interrupted-hide K (E (u .0)) (shape s) (vp s (u .0)) (g .0) n (is-level s w (g .0) search))
-    effect-hide (Pstat v mode) c ps = refl
-    effect-hide (Vstat v mode) c ps = refl
-    effect-hide (Caps v mode) c ps = refl
+    effect-hide (Made v mode Pstat) c ps = refl
+    effect-hide (Made v mode Vstat) c ps = refl
+    effect-hide (Made v mode Caps) c ps = refl
 
     value-same : (e : Event) → quietMaker K s (maker e) ≡ true → Passed (rule s e .refusals) → rule (hide K E H s) e .value ≡ rule s e .value
-    unfolding rule maker active
-    value-same (Enpart v mode t mbec) c ps = refl
-    value-same (Envp v mode u t ip sp cr) c ps = refl
-    value-same (Call v mode len) c ps = nextUp-hide s (v .0)
-    value-same (Ret v mode len) c ps =
+    unfolding rule ruleOf maker active
+    value-same (Made v mode (Enpart t mbec)) c ps = refl
+    value-same (Made v mode (Envp u t ip sp cr)) c ps = refl
+    value-same (Made v mode (Call len)) c ps = nextUp-hide s (v .0)
+    value-same (Made v mode (Ret len)) c ps =
         let inside = is-processor s w (v .0) search in
         let above : 0 < activeOf (vp s (v .0)) = positive (activeOf (vp s (v .0))) search in
         rw (shape-same, vp-hide, Visible.returned-hide K (E (v .0)) (shape s) (vp s (v .0)) len (maker-low k s (v .0) c) (active-level s w (v .0) inside) above) (Visible.active-same K (E (v .0)) (shape s) _)
-    value-same (Read v mode p) c ps = word-hide K E H s (p .0) (open-page Access.Read readBit (unfold needed in λ m mode. refl) (λ m v h. h) (v .0) mode (p .0) (maker-low k s (v .0) c) (search) (search))
-    value-same (Write v mode p x) c ps = refl
-    value-same (Fetch v mode p) c ps = refl
-    value-same (Protect v mode p m) c ps = refl
-    value-same (Config v mode g x) c ps = refl
-    value-same (Secure v mode l x) c ps = refl
-    value-same (Flush v mode) c ps = refl
-    value-same (Rreg v mode g r) c ps =
+    value-same (Made v mode (Read p)) c ps = word-hide K E H s (p .0) (open-page Access.Read readBit (unfold needed in λ m mode. refl) (λ m v h. h) (v .0) mode (p .0) (maker-low k s (v .0) c) (search) (search))
+    value-same (Made v mode (Write p x)) c ps = refl
+    value-same (Made v mode (Fetch p)) c ps = refl
+    value-same (Made v mode (Protect p m)) c ps = refl
+    value-same (Made v mode (Config g x)) c ps = refl
+    value-same (Made v mode (Secure l x)) c ps = refl
+    value-same (Made v mode Flush) c ps = refl
+    value-same (Made v mode (Rreg g r)) c ps =
         let low : activeOf (vp s (v .0)) < K = maker-low k s (v .0) c in
         let below : g .0 ≤ activeOf (vp s (v .0)) = ltb-false _ _ search in
         rw (shape-same, vp-hide) (Visible.register-hide K (E (v .0)) (shape s) (vp s (v .0)) (g .0) r (omega arith))
-    value-same (Wreg v mode g r x) c ps = refl
-    value-same (Tpr v mode class) c ps = refl
-    value-same (Ack v mode) c ps = simp (active-hide, highest-hide)
+    value-same (Made v mode (Wreg g r x)) c ps = refl
+    value-same (Made v mode (Tpr class)) c ps = refl
+    value-same (Made v mode Ack) c ps = simp (active-hide, highest-hide)
     value-same (Int u g n) c ps = simp (shape-same, vp-hide, Visible.enters-same)
-    value-same (Pstat v mode) c ps = simp Same
-    value-same (Vstat v mode) c ps = simp (Same, needs-same)
-    value-same (Caps v mode) c ps = simp Same
+    value-same (Made v mode Pstat) c ps = simp Same
+    value-same (Made v mode Vstat) c ps = simp (Same, needs-same)
+    value-same (Made v mode Caps) c ps = simp Same
 
     -- An intercept enters the receiver, a level above 0, on the maker's processor.
     intercepted-hide : (e : Event) (l : ℕ) → Taken s e l → intercepted (hide K E H s) (maker e) l ≡ hide K E H (intercepted s (maker e) l)

@@ -4,7 +4,8 @@ use mathlib.Core.List.{List, [], _∷_}
 use Prim.Native.Nat.{ℕ, _^_, _-_}
 use lib.ListN.{take}
 use Rattle.model.specs.declared.event.Event.{Event}
-use Rattle.model.specs.declared.event.Event.the-variants.{Enpart, Envp, Call, Ret, Read, Write, Protect, Config, Rreg, Wreg, Pstat, Vstat}
+use Rattle.model.specs.declared.event.Action.the-variants.{Enpart, Envp, Call, Ret, Read, Write, Protect, Config, Rreg, Wreg, Pstat, Vstat}
+use Rattle.model.specs.declared.event.Event.the-variants.{Made}
 use Rattle.model.specs.declared.machine.FirstLine.{FirstLine}
 use Rattle.model.specs.declared.quantity.Page.{Page}
 use Rattle.model.specs.declared.quantity.Processor.{Processor}
@@ -32,28 +33,28 @@ p1 = record { 0 = 1 }
 -- The script of 01, after its first line.
 abbrev pub script : List Event
 script =
-    Enpart v0 0 (level 1) 0 ∷ Envp v0 0 v0 (level 1) 4096 8192 1 ∷ Call v0 0 3 ∷ Wreg v0 0 (level 0) 3 1 ∷ Call v0 0 3
-    ∷ Config v0 0 (level 1) 31 ∷ Protect v0 0 p1 0 ∷ Write v0 0 p1 77 ∷ Ret v0 0 3 ∷ Read v0 0 p1
-    ∷ Vstat v0 0 ∷ Rreg v0 0 (level 0) 0 ∷ Rreg v0 0 (level 1) 0 ∷ []
+    Made v0 0 (Enpart (level 1) 0) ∷ Made v0 0 (Envp v0 (level 1) 4096 8192 1) ∷ Made v0 0 (Call 3) ∷ Made v0 0 (Wreg (level 0) 3 1) ∷ Made v0 0 (Call 3)
+    ∷ Made v0 0 (Config (level 1) 31) ∷ Made v0 0 (Protect p1 0) ∷ Made v0 0 (Write p1 77) ∷ Made v0 0 (Ret 3) ∷ Made v0 0 (Read p1)
+    ∷ Made v0 0 Vstat ∷ Made v0 0 (Rreg (level 0) 0) ∷ Made v0 0 (Rreg (level 1) 0) ∷ []
 
 abbrev pub cases : List Case
 cases =
     -- line 3: a call in real mode
-    record { before = take 2 script; event = Call v0 0 3; number = 2; value = 0 }
+    record { before = take 2 script; event = Made v0 0 (Call 3); number = 2; value = 0 }
     -- line 5: the call enters level 1
-    ∷ record { before = take 4 script; event = Call v0 0 3; number = 0; value = 1 }
+    ∷ record { before = take 4 script; event = Made v0 0 (Call 3); number = 0; value = 1 }
     -- line 9: the return goes to level 0
-    ∷ record { before = take 8 script; event = Ret v0 0 3; number = 0; value = 0 }
+    ∷ record { before = take 8 script; event = Made v0 0 (Ret 3); number = 0; value = 0 }
     -- line 10: the read of a closed page is an intercept, taken by level 1
-    ∷ record { before = take 9 script; event = Read v0 0 p1; number = 9; value = 1 }
+    ∷ record { before = take 9 script; event = Made v0 0 (Read p1); number = 9; value = 1 }
     -- line 13: RIP of level 1 grew by the return's length
-    ∷ record { before = take 12 script; event = Rreg v0 0 (level 1) 0; number = 0; value = 4099 }
+    ∷ record { before = take 12 script; event = Made v0 0 (Rreg (level 1) 0); number = 0; value = 4099 }
     -- the partition status of the fresh machine
-    ∷ record { before = []; event = Pstat v0 0; number = 0; value = 65537 }
+    ∷ record { before = []; event = Made v0 0 Pstat; number = 0; value = 65537 }
     -- and once level 1 has MBEC
-    ∷ record { before = Enpart v0 0 (level 1) 1 ∷ []; event = Pstat v0 0; number = 0; value = 2162691 }
+    ∷ record { before = Made v0 0 (Enpart (level 1) 1) ∷ []; event = Made v0 0 Pstat; number = 0; value = 2162691 }
     -- RIP 2^64-1 with call length 1 gives 0
-    ∷ record { before = Enpart v0 0 (level 1) 0 ∷ Envp v0 0 v0 (level 1) 0 0 1 ∷ Wreg v0 0 (level 0) 3 1 ∷ Wreg v0 0 (level 0) 0 (2 ^ 64 - 1) ∷ Call v0 0 1 ∷ []; event = Rreg v0 0 (level 0) 0; number = 0; value = 0 }
+    ∷ record { before = Made v0 0 (Enpart (level 1) 0) ∷ Made v0 0 (Envp v0 (level 1) 0 0 1) ∷ Made v0 0 (Wreg (level 0) 3 1) ∷ Made v0 0 (Wreg (level 0) 0 (2 ^ 64 - 1)) ∷ Made v0 0 (Call 1) ∷ []; event = Made v0 0 (Rreg (level 0) 0); number = 0; value = 0 }
     ∷ []
 
 -- The answer of a case, as number and value.

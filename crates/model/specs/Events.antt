@@ -8,7 +8,7 @@ use Rattle.word.specs.Field.{bit}
 use Rattle.word.specs.Registers.{packAs, partitionStatus, vpStatus, capabilities}
 use Rattle.model.specs.declared.answer.Answer.{Answer}
 use Rattle.model.specs.declared.answer.Answer.the-variants.{Intercept}
-use Rattle.model.specs.declared.answer.Refusal.the-variants.{Malformed, UndefinedOpcode, InvalidLevel, NotPermitted, AlreadyEnabled, NotEnabled, WriteOnce, KernelOnlyExecute, NoReceiver, HostDenies, TlbLocked, NoInterrupt}
+use Rattle.model.specs.declared.answer.Refusal.the-variants.{NoSuchProcessor, NoSuchMode, LevelOutOfRange, MbecOutOfRange, LengthOutOfRange, ClassOutOfRange, VectorOutOfRange, NoSuchRegister, NoSuchPage, InvalidMask, ReservedBits, RealModeGiven, UserMode, RealMode, RcxNotZero, NoHigherLevel, AtLevelZero, RcxAboveOne, LevelZero, AboveMaximum, TargetNotAbove, TargetAbove, TargetNotBelow, NothingBelow, EnabledForPartition, EnabledOnProcessor, NotForPartition, NotOnProcessor, ProtectionsOff, NoMbec, ProtectionsCleared, DefaultMaskChanged, KernelOnlyExecute, NoReceiver, HostDenies, TlbLocked, NoneReady, InterruptsOff}
 use Rattle.model.specs.declared.machine.PartitionLevel.{PartitionLevel}
 use Rattle.model.specs.declared.machine.Shape.{Shape}
 use Rattle.model.specs.declared.machine.VirtualProcessor.{VirtualProcessor}
@@ -39,29 +39,30 @@ onLevel s l f = putLevel s l (f (partitionLevel s l))
 unfoldable pub own : State → ℕ → ℕ → ℕ
 own s v r = privateOf (shape s) (vp s v) (active s v) r
 
--- An event made on processor v in a mode, 0 kernel or 1 user. All but read, write and fetch need kernel mode.
+-- An event made on processor v in a mode, 0 kernel or 1 user: first of all there is such a processor and such a mode.
 abbrev pub madeOn : State → ℕ → ℕ → List (Answer × Bool) → List (Answer × Bool)
-madeOn s v mode cs = Malformed when leb (processors s) v ∷ Malformed when ltb 1 mode ∷ cs
+madeOn s v mode cs = NoSuchProcessor when leb (processors s) v ∷ NoSuchMode when ltb 1 mode ∷ cs
 
+-- All but read, write and fetch need kernel mode.
 abbrev pub kernel : ℕ → List (Answer × Bool) → List (Answer × Bool)
-kernel mode cs = UndefinedOpcode when eqb mode 1 ∷ cs
+kernel mode cs = UserMode when eqb mode 1 ∷ cs
 
 -- Levels above 15 are out of range. 3 is for a level above M; where a level above 0 is needed, for 0 too.
 abbrev pub outOfRange : ℕ → Answer × Bool
-outOfRange l = Malformed when ltb 15 l
+outOfRange l = LevelOutOfRange when ltb 15 l
 
 abbrev pub aboveMaximum : State → ℕ → Answer × Bool
-aboveMaximum s l = InvalidLevel when ltb (maxLevel s) l
+aboveMaximum s l = AboveMaximum when ltb (maxLevel s) l
 
 abbrev pub levelZero : ℕ → Answer × Bool
-levelZero l = InvalidLevel when eqb l 0
+levelZero l = LevelZero when eqb l 0
 
 -- enpart v mode t mbec(0/1): 3 if t is 0 or above M; 4 if actor >= t (a lower level initiates); 5. Level t is enabled, with
 -- MBEC or without.
 abbrev pub enpart : State → ℕ → ℕ → ℕ → ℕ → Rule
 enpart s v mode t mbec = record {
-  refusals = madeOn s v mode (outOfRange t ∷ Malformed when ltb 1 mbec ∷ kernel mode (
-      levelZero t ∷ aboveMaximum s t ∷ NotPermitted when leb t (active s v) ∷ AlreadyEnabled when enabledFor s t ∷ []));
+  refusals = outOfRange t ∷ MbecOutOfRange when ltb 1 mbec ∷ kernel mode (
+      levelZero t ∷ aboveMaximum s t ∷ TargetNotAbove when leb t (active s v) ∷ EnabledForPartition when enabledFor s t ∷ []);
   value = 0;
   effect = onLevel s t (λ x. withEnabled x (eqb mbec 1));
 }
@@ -69,9 +70,9 @@ enpart s v mode t mbec = record {
 -- envp v mode w t rip rsp cr0: 1 if cr0 bit 0 is clear; 3, 4 as above; 5 if t is enabled on w; 6 if not for the partition.
 abbrev pub envp : State → ℕ → ℕ → ℕ → ℕ → ℕ → ℕ → ℕ → Rule
 envp s v mode w t ip sp cr = record {
-  refusals = madeOn s v mode (Malformed when leb (processors s) w ∷ outOfRange t ∷ Malformed when not (bit cr protectedBit) ∷ kernel mode (
-      levelZero t ∷ aboveMaximum s t ∷ NotPermitted when leb t (active s v) ∷ AlreadyEnabled when enabledOn s w t
-      ∷ NotEnabled when not (enabledFor s t) ∷ []));
+  refusals = NoSuchProcessor when leb (processors s) w ∷ outOfRange t ∷ RealModeGiven when not (bit cr protectedBit) ∷ kernel mode (
+      levelZero t ∷ aboveMaximum s t ∷ TargetNotAbove when leb t (active s v) ∷ EnabledOnProcessor when enabledOn s w t
+      ∷ NotForPartition when not (enabledFor s t) ∷ []);
   value = 0;
   effect = onVp s w (λ z p. started z p t ip sp cr);
 }
@@ -80,9 +81,9 @@ envp s v mode w t ip sp cr = record {
 -- Value: the level entered.
 abbrev pub call : State → ℕ → ℕ → ℕ → Rule
 call s v mode len = record {
-  refusals = madeOn s v mode (Malformed when eqb len 0 ∷ Malformed when ltb 15 len ∷ kernel mode (
-      UndefinedOpcode when not (bit (own s v cr0) protectedBit) ∷ UndefinedOpcode when not (eqb (sharedOf (vp s v) rcx) 0)
-      ∷ UndefinedOpcode when eqb (nextUp (shape s) (vp s v)) 4 ∷ []));
+  refusals = LengthOutOfRange when eqb len 0 ∷ LengthOutOfRange when ltb 15 len ∷ kernel mode (
+      RealMode when not (bit (own s v cr0) protectedBit) ∷ RcxNotZero when not (eqb (sharedOf (vp s v) rcx) 0)
+      ∷ NoHigherLevel when eqb (nextUp (shape s) (vp s v)) 4 ∷ []);
   value = nextUp (shape s) (vp s v);
   effect = onVp s v (λ z p. called z p len);
 }
@@ -90,20 +91,20 @@ call s v mode len = record {
 -- ret v mode len (1..15 for any reason): 2 at level 0 or if RCX is above 1. Value: the level now active.
 abbrev pub ret : State → ℕ → ℕ → ℕ → Rule
 ret s v mode len = record {
-  refusals = madeOn s v mode (Malformed when eqb len 0 ∷ Malformed when ltb 15 len ∷ kernel mode (
-      UndefinedOpcode when eqb (active s v) 0 ∷ UndefinedOpcode when ltb 1 (sharedOf (vp s v) rcx) ∷ []));
+  refusals = LengthOutOfRange when eqb len 0 ∷ LengthOutOfRange when ltb 15 len ∷ kernel mode (
+      AtLevelZero when eqb (active s v) 0 ∷ RcxAboveOne when ltb 1 (sharedOf (vp s v) rcx) ∷ []);
   value = activeOf (returned (shape s) (vp s v) len);
   effect = onVp s v (λ z p. returned z p len);
 }
 
 -- read v mode p; write v mode p x; fetch v mode p: as under Memory. A read's value is the word.
 abbrev pub byAccess : State → ℕ → ℕ → ℕ → Access → List (Answer × Bool)
-byAccess s v mode p access = madeOn s v mode (
-    Malformed when leb (pages s) p
+byAccess s v mode p access =
+    NoSuchPage when leb (pages s) p
     ∷ (Intercept (level (receiver s v mode p access)), ltb (receiver s v mode p access) 4)
     ∷ NoReceiver when denied s v mode p access
     ∷ HostDenies when hostDenies s p access
-    ∷ [])
+    ∷ []
 
 abbrev pub read : State → ℕ → ℕ → ℕ → Rule
 read s v mode p = record { refusals = byAccess s v mode p Access.Read; value = wordOf s p; effect = s }
@@ -117,9 +118,9 @@ fetch s v mode p = record { refusals = byAccess s v mode p Access.Fetch; value =
 -- protect v mode p mask: 1 if invalid; 4 at level 0; 6 if the actor's protections are off; 8. Sets the actor's own mask.
 abbrev pub protect : State → ℕ → ℕ → ℕ → ℕ → Rule
 protect s v mode p k = record {
-  refusals = madeOn s v mode (Malformed when leb (pages s) p ∷ Malformed when not (validMask k) ∷ kernel mode (
-      NotPermitted when eqb (active s v) 0 ∷ NotEnabled when not (protects s (active s v))
-      ∷ KernelOnlyExecute when (kernelOnly k && mbecFor s (active s v)) ∷ []));
+  refusals = NoSuchPage when leb (pages s) p ∷ InvalidMask when not (validMask k) ∷ kernel mode (
+      NothingBelow when eqb (active s v) 0 ∷ ProtectionsOff when not (protects s (active s v))
+      ∷ KernelOnlyExecute when (kernelOnly k && mbecFor s (active s v)) ∷ []);
   value = 0;
   effect = setMask s (active s v) p k;
 }
@@ -134,10 +135,11 @@ configured s g w =
 
 abbrev pub config : State → ℕ → ℕ → ℕ → ℕ → Rule
 config s v mode g w = record {
-  refusals = madeOn s v mode (outOfRange g ∷ Malformed when reservedSet w ∷ Malformed when not (validMask (defaultMask w)) ∷ kernel mode (
-      levelZero g ∷ aboveMaximum s g ∷ NotPermitted when ltb (active s v) g ∷ NotEnabled when not (enabledFor s g)
-      ∷ WriteOnce when (protects s g && (not (turnsOn w) || not (eqb (defaultMask w) (defaultMask (configOf s g)))))
-      ∷ KernelOnlyExecute when (kernelOnly (defaultMask w) && mbecFor s g) ∷ []));
+  refusals = outOfRange g ∷ ReservedBits when reservedSet w ∷ InvalidMask when not (validMask (defaultMask w)) ∷ kernel mode (
+      levelZero g ∷ aboveMaximum s g ∷ TargetAbove when ltb (active s v) g ∷ NotForPartition when not (enabledFor s g)
+      ∷ ProtectionsCleared when (protects s g && not (turnsOn w))
+      ∷ DefaultMaskChanged when (protects s g && not (eqb (defaultMask w) (defaultMask (configOf s g))))
+      ∷ KernelOnlyExecute when (kernelOnly (defaultMask w) && mbecFor s g) ∷ []);
   value = 0;
   effect = configured s g w;
 }
@@ -146,9 +148,9 @@ config s v mode g w = record {
 -- is set and the partition has no MBEC for the actor. Held per v, actor and l.
 abbrev pub secure : State → ℕ → ℕ → ℕ → ℕ → Rule
 secure s v mode l w = record {
-  refusals = madeOn s v mode (outOfRange l ∷ Malformed when secureReservedSet w ∷ kernel mode (
-      aboveMaximum s l ∷ NotPermitted when leb (active s v) l ∷ NotEnabled when not (enabledOn s v l)
-      ∷ NotEnabled when (bit w mbecBit && not (mbecFor s (active s v))) ∷ []));
+  refusals = outOfRange l ∷ ReservedBits when secureReservedSet w ∷ kernel mode (
+      aboveMaximum s l ∷ TargetNotBelow when leb (active s v) l ∷ NotOnProcessor when not (enabledOn s v l)
+      ∷ NoMbec when (bit w mbecBit && not (mbecFor s (active s v))) ∷ []);
   value = 0;
   effect = onVp s v (λ z p. setSecure z p (activeOf p) l w);
 }
@@ -158,24 +160,24 @@ unfoldable pub locked : State → ℕ → Bool
 locked s l = any 4 (λ w. any 4 (λ t. bit (secureOf (shape s) (vp s w) t l) lockBit))
 
 abbrev pub flush : State → ℕ → ℕ → Rule
-flush s v mode = record { refusals = madeOn s v mode (kernel mode (TlbLocked when locked s (active s v) ∷ [])); value = 0; effect = s }
+flush s v mode = record { refusals = kernel mode (TlbLocked when locked s (active s v) ∷ []); value = 0; effect = s }
 
 -- rreg v mode g r; wreg v mode g r x: 1 for r > 31, or CR0 with bit 0 clear for g > 0; 3; 4 if g > actor; 6 if g is not enabled
 -- on v. Value of rreg: the register.
 abbrev pub ofLevel : State → ℕ → ℕ → List (Answer × Bool)
-ofLevel s v g = aboveMaximum s g ∷ NotPermitted when ltb (active s v) g ∷ NotEnabled when not (enabledOn s v g) ∷ []
+ofLevel s v g = aboveMaximum s g ∷ TargetAbove when ltb (active s v) g ∷ NotOnProcessor when not (enabledOn s v g) ∷ []
 
 abbrev pub rreg : State → ℕ → ℕ → ℕ → ℕ → Rule
 rreg s v mode g r = record {
-  refusals = madeOn s v mode (outOfRange g ∷ Malformed when ltb 31 r ∷ kernel mode (ofLevel s v g));
+  refusals = outOfRange g ∷ NoSuchRegister when ltb 31 r ∷ kernel mode (ofLevel s v g);
   value = registerOf (shape s) (vp s v) g r;
   effect = s;
 }
 
 abbrev pub wreg : State → ℕ → ℕ → ℕ → ℕ → ℕ → Rule
 wreg s v mode g r x = record {
-  refusals = madeOn s v mode (outOfRange g ∷ Malformed when ltb 31 r ∷ Malformed when (eqb r cr0 && ltb 0 g && not (bit x protectedBit))
-      ∷ kernel mode (ofLevel s v g));
+  refusals = outOfRange g ∷ NoSuchRegister when ltb 31 r ∷ RealModeGiven when (eqb r cr0 && ltb 0 g && not (bit x protectedBit))
+      ∷ kernel mode (ofLevel s v g);
   value = 0;
   effect = onVp s v (λ z p. setRegister z p g r x);
 }
@@ -183,7 +185,7 @@ wreg s v mode g r x = record {
 -- tpr v mode class; sets the actor's own.
 abbrev pub tpr : State → ℕ → ℕ → ℕ → Rule
 tpr s v mode class = record {
-  refusals = madeOn s v mode (Malformed when ltb 15 class ∷ kernel mode []);
+  refusals = ClassOutOfRange when ltb 15 class ∷ kernel mode [];
   value = 0;
   effect = onVp s v (λ z p. setTpr z p (activeOf p) class);
 }
@@ -191,7 +193,7 @@ tpr s v mode class = record {
 -- ack v mode: takes the highest ready vector of the actor, 13 if none or RFLAGS bit 9 is clear; value: the vector.
 abbrev pub ack : State → ℕ → ℕ → Rule
 ack s v mode = let n = highestReady (context (shape s) (vp s v) (active s v)) in record {
-  refusals = madeOn s v mode (kernel mode (NoInterrupt when eqb n 0 ∷ NoInterrupt when not (bit (own s v rflags) interruptBit) ∷ []));
+  refusals = kernel mode (NoneReady when eqb n 0 ∷ InterruptsOff when not (bit (own s v rflags) interruptBit) ∷ []);
   value = n;
   effect = onVp s v acknowledged;
 }
@@ -200,15 +202,15 @@ ack s v mode = let n = highestReady (context (shape s) (vp s v) (active s v)) in
 -- entered, else 0.
 abbrev pub int : State → ℕ → ℕ → ℕ → Rule
 int s w g n = record {
-  refusals = Malformed when leb (processors s) w ∷ outOfRange g ∷ Malformed when ltb n 16 ∷ Malformed when ltb 255 n
-      ∷ aboveMaximum s g ∷ NotEnabled when not (enabledOn s w g) ∷ [];
+  refusals = NoSuchProcessor when leb (processors s) w ∷ outOfRange g ∷ VectorOutOfRange when ltb n 16 ∷ VectorOutOfRange when ltb 255 n
+      ∷ aboveMaximum s g ∷ NotOnProcessor when not (enabledOn s w g) ∷ [];
   value = cond (enters (shape s) (vp s w) g n) 1 0;
   effect = onVp s w (λ z p. interrupted z p g n);
 }
 
 -- pstat, vstat, caps v mode: the words of 001. Partition status: enabled set at bit 0, M at 16, MBEC set at 20.
 abbrev pub status : State → ℕ → ℕ → ℕ → Rule
-status s v mode word = record { refusals = madeOn s v mode (kernel mode []); value = word; effect = s }
+status s v mode word = record { refusals = kernel mode []; value = word; effect = s }
 
 abbrev pub pstat : State → ℕ → ℕ → Rule
 pstat s v mode = status s v mode (packAs partitionStatus (record {

@@ -6,57 +6,50 @@ use Prim.Native.Nat.{ℕ}
 use Rattle.model.specs.declared.answer.Answer.{Answer}
 use Rattle.model.specs.declared.answer.Answer.the-variants.{Done, Refused, Intercept}
 use Rattle.model.specs.declared.answer.Refusal.the-variants.{Malformed}
+use Rattle.model.specs.declared.event.Action.{Action}
+use Rattle.model.specs.declared.event.Action.the-variants.{Enpart, Envp, Call, Ret, Read, Write, Fetch, Protect, Config, Secure, Flush, Rreg, Wreg, Tpr, Ack, Pstat, Vstat, Caps}
 use Rattle.model.specs.declared.event.Event.{Event}
-use Rattle.model.specs.declared.event.Event.the-variants.{Enpart, Envp, Call, Ret, Read, Write, Fetch, Protect, Config, Secure, Flush, Rreg, Wreg, Tpr, Ack, Int, Pstat, Vstat, Caps}
+use Rattle.model.specs.declared.event.Event.the-variants.{Made, Int}
 use Rattle.model.specs.Answers.{firstOf}
 use Rattle.model.specs.Entry.{enter, byInterrupt}
-use Rattle.model.specs.Events.{Rule, onVp, enpart, envp, call, ret, read, write, fetch, protect, config, secure, flush, rreg, wreg, tpr, ack, int, pstat, vstat, caps}
+use Rattle.model.specs.Events.{Rule, onVp, madeOn, enpart, envp, call, ret, read, write, fetch, protect, config, secure, flush, rreg, wreg, tpr, ack, int, pstat, vstat, caps}
 use Rattle.model.specs.State.{State}
 use Rattle.model.specs.WellFormed.{wellFormed}
 
--- The rule of each event.
+-- The rule of what a level does on processor v in a mode.
+unfoldable pub ruleOf : State → ℕ → ℕ → Action → Rule
+ruleOf s v mode (Enpart t mbec) = enpart s v mode (t .0) mbec
+ruleOf s v mode (Envp w t ip sp cr) = envp s v mode (w .0) (t .0) ip sp cr
+ruleOf s v mode (Call len) = call s v mode len
+ruleOf s v mode (Ret len) = ret s v mode len
+ruleOf s v mode (Read p) = read s v mode (p .0)
+ruleOf s v mode (Write p x) = write s v mode (p .0) x
+ruleOf s v mode (Fetch p) = fetch s v mode (p .0)
+ruleOf s v mode (Protect p k) = protect s v mode (p .0) k
+ruleOf s v mode (Config g w) = config s v mode (g .0) w
+ruleOf s v mode (Secure l w) = secure s v mode (l .0) w
+ruleOf s v mode Flush = flush s v mode
+ruleOf s v mode (Rreg g r) = rreg s v mode (g .0) r
+ruleOf s v mode (Wreg g r x) = wreg s v mode (g .0) r x
+ruleOf s v mode (Tpr class) = tpr s v mode class
+ruleOf s v mode Ack = ack s v mode
+ruleOf s v mode Pstat = pstat s v mode
+ruleOf s v mode Vstat = vstat s v mode
+ruleOf s v mode Caps = caps s v mode
+
+-- The rule of an event. One that a level makes has the conditions of `madeOn` first.
 unfoldable pub rule : State → Event → Rule
-rule s (Enpart v mode t mbec) = enpart s (v .0) mode (t .0) mbec
-rule s (Envp v mode w t ip sp cr) = envp s (v .0) mode (w .0) (t .0) ip sp cr
-rule s (Call v mode len) = call s (v .0) mode len
-rule s (Ret v mode len) = ret s (v .0) mode len
-rule s (Read v mode p) = read s (v .0) mode (p .0)
-rule s (Write v mode p x) = write s (v .0) mode (p .0) x
-rule s (Fetch v mode p) = fetch s (v .0) mode (p .0)
-rule s (Protect v mode p k) = protect s (v .0) mode (p .0) k
-rule s (Config v mode g w) = config s (v .0) mode (g .0) w
-rule s (Secure v mode l w) = secure s (v .0) mode (l .0) w
-rule s (Flush v mode) = flush s (v .0) mode
-rule s (Rreg v mode g r) = rreg s (v .0) mode (g .0) r
-rule s (Wreg v mode g r x) = wreg s (v .0) mode (g .0) r x
-rule s (Tpr v mode class) = tpr s (v .0) mode class
-rule s (Ack v mode) = ack s (v .0) mode
+rule s (Made v mode a) = let r = ruleOf s (v .0) mode a in record {
+  refusals = madeOn s (v .0) mode (r .refusals);
+  value = r .value;
+  effect = r .effect;
+}
 rule s (Int w g n) = int s (w .0) (g .0) n
-rule s (Pstat v mode) = pstat s (v .0) mode
-rule s (Vstat v mode) = vstat s (v .0) mode
-rule s (Caps v mode) = caps s (v .0) mode
 
 -- An event's maker is its v; an event without v has none.
 unfoldable pub maker : Event → Option ℕ
-maker (Enpart v mode t mbec) = some (v .0)
-maker (Envp v mode w t ip sp cr) = some (v .0)
-maker (Call v mode len) = some (v .0)
-maker (Ret v mode len) = some (v .0)
-maker (Read v mode p) = some (v .0)
-maker (Write v mode p x) = some (v .0)
-maker (Fetch v mode p) = some (v .0)
-maker (Protect v mode p k) = some (v .0)
-maker (Config v mode g w) = some (v .0)
-maker (Secure v mode l w) = some (v .0)
-maker (Flush v mode) = some (v .0)
-maker (Rreg v mode g r) = some (v .0)
-maker (Wreg v mode g r x) = some (v .0)
-maker (Tpr v mode class) = some (v .0)
-maker (Ack v mode) = some (v .0)
+maker (Made v mode a) = some (v .0)
 maker (Int w g n) = none
-maker (Pstat v mode) = some (v .0)
-maker (Vstat v mode) = some (v .0)
-maker (Caps v mode) = some (v .0)
 
 -- At 9 the processor enters the receiver, reason 2, and nothing else changes.
 unfoldable pub intercepted : State → Option ℕ → ℕ → State

@@ -10,7 +10,8 @@ use lib.Dec.{leb}
 use lib.ListN.{length, length-append}
 use Rattle.decimal.specs.Write.{decimal}
 use Rattle.model.specs.declared.event.Event.{Event}
-use Rattle.model.specs.declared.event.Event.the-variants.{Enpart, Envp, Call, Ret, Read, Write, Fetch, Protect, Config, Secure, Flush, Rreg, Wreg, Tpr, Ack, Int, Pstat, Vstat, Caps}
+use Rattle.model.specs.declared.event.Action.the-variants.{Enpart, Envp, Call, Ret, Read, Write, Fetch, Protect, Config, Secure, Flush, Rreg, Wreg, Tpr, Ack, Pstat, Vstat, Caps}
+use Rattle.model.specs.declared.event.Event.the-variants.{Made, Int}
 use Rattle.model.specs.declared.machine.FirstLine.{FirstLine}
 use Rattle.script.specs.Bytes.{same}
 use Rattle.script.specs.Events.{events, lineEvent}
@@ -48,25 +49,25 @@ module _ {A R : Type 0} {good : A → R} {bad : R} {forms : List (Form A)} {text
 -- Each event has a sound text.
 sound : (e : Event) → Sound parsed.Event parsed.Malformed events (eventText e) e
 unfolding eventText among same
-sound (Enpart v mode t mbec) = record { no-tab = refl; short = refl; found = refl }
-sound (Envp v mode w t rip rsp cr0) = record { no-tab = refl; short = refl; found = refl }
-sound (Call v mode len) = record { no-tab = refl; short = refl; found = refl }
-sound (Ret v mode len) = record { no-tab = refl; short = refl; found = refl }
-sound (Read v mode p) = record { no-tab = refl; short = refl; found = refl }
-sound (Write v mode p x) = record { no-tab = refl; short = refl; found = refl }
-sound (Fetch v mode p) = record { no-tab = refl; short = refl; found = refl }
-sound (Protect v mode p mask) = record { no-tab = refl; short = refl; found = refl }
-sound (Config v mode g word) = record { no-tab = refl; short = refl; found = refl }
-sound (Secure v mode l word) = record { no-tab = refl; short = refl; found = refl }
-sound (Flush v mode) = record { no-tab = refl; short = refl; found = refl }
-sound (Rreg v mode g r) = record { no-tab = refl; short = refl; found = refl }
-sound (Wreg v mode g r x) = record { no-tab = refl; short = refl; found = refl }
-sound (Tpr v mode class) = record { no-tab = refl; short = refl; found = refl }
-sound (Ack v mode) = record { no-tab = refl; short = refl; found = refl }
+sound (Made v mode (Enpart t mbec)) = record { no-tab = refl; short = refl; found = refl }
+sound (Made v mode (Envp w t rip rsp cr0)) = record { no-tab = refl; short = refl; found = refl }
+sound (Made v mode (Call len)) = record { no-tab = refl; short = refl; found = refl }
+sound (Made v mode (Ret len)) = record { no-tab = refl; short = refl; found = refl }
+sound (Made v mode (Read p)) = record { no-tab = refl; short = refl; found = refl }
+sound (Made v mode (Write p x)) = record { no-tab = refl; short = refl; found = refl }
+sound (Made v mode (Fetch p)) = record { no-tab = refl; short = refl; found = refl }
+sound (Made v mode (Protect p mask)) = record { no-tab = refl; short = refl; found = refl }
+sound (Made v mode (Config g word)) = record { no-tab = refl; short = refl; found = refl }
+sound (Made v mode (Secure l word)) = record { no-tab = refl; short = refl; found = refl }
+sound (Made v mode Flush) = record { no-tab = refl; short = refl; found = refl }
+sound (Made v mode (Rreg g r)) = record { no-tab = refl; short = refl; found = refl }
+sound (Made v mode (Wreg g r x)) = record { no-tab = refl; short = refl; found = refl }
+sound (Made v mode (Tpr class)) = record { no-tab = refl; short = refl; found = refl }
+sound (Made v mode Ack) = record { no-tab = refl; short = refl; found = refl }
 sound (Int w g vector) = record { no-tab = refl; short = refl; found = refl }
-sound (Pstat v mode) = record { no-tab = refl; short = refl; found = refl }
-sound (Vstat v mode) = record { no-tab = refl; short = refl; found = refl }
-sound (Caps v mode) = record { no-tab = refl; short = refl; found = refl }
+sound (Made v mode Pstat) = record { no-tab = refl; short = refl; found = refl }
+sound (Made v mode Vstat) = record { no-tab = refl; short = refl; found = refl }
+sound (Made v mode Caps) = record { no-tab = refl; short = refl; found = refl }
 
 -- The line of an event says the event, where its numbers are below 2^64.
 pub event-round-trip : (e : Event) → Numbers (eventText e .numbers) → lineEvent (eventLine e) ≡ parsed.Event e

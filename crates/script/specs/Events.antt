@@ -4,7 +4,8 @@ use mathlib.Core.List.{List, [], _∷_}
 use Prim.Native.Nat.{ℕ}
 use Rattle.model.specs.State.{level}
 use Rattle.model.specs.declared.event.Event.{Event}
-use Rattle.model.specs.declared.event.Event.the-variants.{Enpart, Envp, Call, Ret, Read, Write, Fetch, Protect, Config, Secure, Flush, Rreg, Wreg, Tpr, Ack, Int, Pstat, Vstat, Caps}
+use Rattle.model.specs.declared.event.Action.the-variants.{Enpart, Envp, Call, Ret, Read, Write, Fetch, Protect, Config, Secure, Flush, Rreg, Wreg, Tpr, Ack, Pstat, Vstat, Caps}
+use Rattle.model.specs.declared.event.Event.the-variants.{Made, Int}
 use Rattle.model.specs.declared.quantity.Page.{Page}
 use Rattle.model.specs.declared.quantity.Processor.{Processor}
 use Rattle.script.specs.Bytes.{bytes}
@@ -21,63 +22,63 @@ page p = record { 0 = p }
 
 -- enpart v mode t mbec
 abbrev pub enpart : Form Event
-enpart = record { word = bytes "enpart"; count = 4; value = λ v mode t mbec. Enpart (processor v) mode (level t) mbec }
+enpart = record { word = bytes "enpart"; count = 4; value = λ v mode t mbec. Made (processor v) mode (Enpart (level t) mbec) }
 
 -- envp v mode w t rip rsp cr0
 abbrev pub envp : Form Event
-envp = record { word = bytes "envp"; count = 7; value = λ v mode w t rip rsp cr0. Envp (processor v) mode (processor w) (level t) rip rsp cr0 }
+envp = record { word = bytes "envp"; count = 7; value = λ v mode w t rip rsp cr0. Made (processor v) mode (Envp (processor w) (level t) rip rsp cr0) }
 
 -- call v mode len
 abbrev pub call : Form Event
-call = record { word = bytes "call"; count = 3; value = λ v mode len. Call (processor v) mode len }
+call = record { word = bytes "call"; count = 3; value = λ v mode len. Made (processor v) mode (Call len) }
 
 -- ret v mode len
 abbrev pub ret : Form Event
-ret = record { word = bytes "ret"; count = 3; value = λ v mode len. Ret (processor v) mode len }
+ret = record { word = bytes "ret"; count = 3; value = λ v mode len. Made (processor v) mode (Ret len) }
 
 -- read v mode p
 abbrev pub read : Form Event
-read = record { word = bytes "read"; count = 3; value = λ v mode p. Read (processor v) mode (page p) }
+read = record { word = bytes "read"; count = 3; value = λ v mode p. Made (processor v) mode (Read (page p)) }
 
 -- write v mode p x
 abbrev pub write : Form Event
-write = record { word = bytes "write"; count = 4; value = λ v mode p x. Write (processor v) mode (page p) x }
+write = record { word = bytes "write"; count = 4; value = λ v mode p x. Made (processor v) mode (Write (page p) x) }
 
 -- fetch v mode p
 abbrev pub fetch : Form Event
-fetch = record { word = bytes "fetch"; count = 3; value = λ v mode p. Fetch (processor v) mode (page p) }
+fetch = record { word = bytes "fetch"; count = 3; value = λ v mode p. Made (processor v) mode (Fetch (page p)) }
 
 -- protect v mode p mask
 abbrev pub protect : Form Event
-protect = record { word = bytes "protect"; count = 4; value = λ v mode p mask. Protect (processor v) mode (page p) mask }
+protect = record { word = bytes "protect"; count = 4; value = λ v mode p mask. Made (processor v) mode (Protect (page p) mask) }
 
 -- config v mode g word
 abbrev pub config : Form Event
-config = record { word = bytes "config"; count = 4; value = λ v mode g word. Config (processor v) mode (level g) word }
+config = record { word = bytes "config"; count = 4; value = λ v mode g word. Made (processor v) mode (Config (level g) word) }
 
 -- secure v mode l word
 abbrev pub secure : Form Event
-secure = record { word = bytes "secure"; count = 4; value = λ v mode l word. Secure (processor v) mode (level l) word }
+secure = record { word = bytes "secure"; count = 4; value = λ v mode l word. Made (processor v) mode (Secure (level l) word) }
 
 -- flush v mode
 abbrev pub flush : Form Event
-flush = record { word = bytes "flush"; count = 2; value = λ v mode. Flush (processor v) mode }
+flush = record { word = bytes "flush"; count = 2; value = λ v mode. Made (processor v) mode Flush }
 
 -- rreg v mode g r
 abbrev pub rreg : Form Event
-rreg = record { word = bytes "rreg"; count = 4; value = λ v mode g r. Rreg (processor v) mode (level g) r }
+rreg = record { word = bytes "rreg"; count = 4; value = λ v mode g r. Made (processor v) mode (Rreg (level g) r) }
 
 -- wreg v mode g r x
 abbrev pub wreg : Form Event
-wreg = record { word = bytes "wreg"; count = 5; value = λ v mode g r x. Wreg (processor v) mode (level g) r x }
+wreg = record { word = bytes "wreg"; count = 5; value = λ v mode g r x. Made (processor v) mode (Wreg (level g) r x) }
 
 -- tpr v mode class
 abbrev pub tpr : Form Event
-tpr = record { word = bytes "tpr"; count = 3; value = λ v mode class. Tpr (processor v) mode class }
+tpr = record { word = bytes "tpr"; count = 3; value = λ v mode class. Made (processor v) mode (Tpr class) }
 
 -- ack v mode
 abbrev pub ack : Form Event
-ack = record { word = bytes "ack"; count = 2; value = λ v mode. Ack (processor v) mode }
+ack = record { word = bytes "ack"; count = 2; value = λ v mode. Made (processor v) mode Ack }
 
 -- int w g vector
 abbrev pub int : Form Event
@@ -85,13 +86,13 @@ int = record { word = bytes "int"; count = 3; value = λ w g vector. Int (proces
 
 -- pstat, vstat, caps v mode
 abbrev pub pstat : Form Event
-pstat = record { word = bytes "pstat"; count = 2; value = λ v mode. Pstat (processor v) mode }
+pstat = record { word = bytes "pstat"; count = 2; value = λ v mode. Made (processor v) mode Pstat }
 
 abbrev pub vstat : Form Event
-vstat = record { word = bytes "vstat"; count = 2; value = λ v mode. Vstat (processor v) mode }
+vstat = record { word = bytes "vstat"; count = 2; value = λ v mode. Made (processor v) mode Vstat }
 
 abbrev pub caps : Form Event
-caps = record { word = bytes "caps"; count = 2; value = λ v mode. Caps (processor v) mode }
+caps = record { word = bytes "caps"; count = 2; value = λ v mode. Made (processor v) mode Caps }
 
 abbrev pub events : List (Form Event)
 events = enpart ∷ envp ∷ call ∷ ret ∷ read ∷ write ∷ fetch ∷ protect ∷ config ∷ secure ∷ flush ∷ rreg ∷ wreg ∷ tpr ∷ ack ∷ int

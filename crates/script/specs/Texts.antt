@@ -4,7 +4,8 @@ use mathlib.Core.List.{List, [], _∷_, _++_, map}
 use Prim.Native.Nat.{ℕ, _<_, _^_}
 use Rattle.decimal.specs.Write.{decimal}
 use Rattle.model.specs.declared.event.Event.{Event}
-use Rattle.model.specs.declared.event.Event.the-variants.{Enpart, Envp, Call, Ret, Read, Write, Fetch, Protect, Config, Secure, Flush, Rreg, Wreg, Tpr, Ack, Int, Pstat, Vstat, Caps}
+use Rattle.model.specs.declared.event.Action.the-variants.{Enpart, Envp, Call, Ret, Read, Write, Fetch, Protect, Config, Secure, Flush, Rreg, Wreg, Tpr, Ack, Pstat, Vstat, Caps}
+use Rattle.model.specs.declared.event.Event.the-variants.{Made, Int}
 use Rattle.model.specs.declared.machine.FirstLine.{FirstLine}
 use Rattle.script.specs.Events.{enpart, envp, call, ret, read, write, fetch, protect, config, secure, flush, rreg, wreg, tpr, ack, int, pstat, vstat, caps}
 use Rattle.script.specs.First.{vsm}
@@ -29,25 +30,25 @@ text form numbers = record { form = form; numbers = numbers }
 
 -- The line of an event; numbers stand in the order of 01.
 unfoldable pub eventText : Event → Text Event
-eventText (Enpart v mode t mbec) = text enpart (v .0 ∷ mode ∷ t .0 ∷ mbec ∷ [])
-eventText (Envp v mode w t rip rsp cr0) = text envp (v .0 ∷ mode ∷ w .0 ∷ t .0 ∷ rip ∷ rsp ∷ cr0 ∷ [])
-eventText (Call v mode len) = text call (v .0 ∷ mode ∷ len ∷ [])
-eventText (Ret v mode len) = text ret (v .0 ∷ mode ∷ len ∷ [])
-eventText (Read v mode p) = text read (v .0 ∷ mode ∷ p .0 ∷ [])
-eventText (Write v mode p x) = text write (v .0 ∷ mode ∷ p .0 ∷ x ∷ [])
-eventText (Fetch v mode p) = text fetch (v .0 ∷ mode ∷ p .0 ∷ [])
-eventText (Protect v mode p mask) = text protect (v .0 ∷ mode ∷ p .0 ∷ mask ∷ [])
-eventText (Config v mode g word) = text config (v .0 ∷ mode ∷ g .0 ∷ word ∷ [])
-eventText (Secure v mode l word) = text secure (v .0 ∷ mode ∷ l .0 ∷ word ∷ [])
-eventText (Flush v mode) = text flush (v .0 ∷ mode ∷ [])
-eventText (Rreg v mode g r) = text rreg (v .0 ∷ mode ∷ g .0 ∷ r ∷ [])
-eventText (Wreg v mode g r x) = text wreg (v .0 ∷ mode ∷ g .0 ∷ r ∷ x ∷ [])
-eventText (Tpr v mode class) = text tpr (v .0 ∷ mode ∷ class ∷ [])
-eventText (Ack v mode) = text ack (v .0 ∷ mode ∷ [])
+eventText (Made v mode (Enpart t mbec)) = text enpart (v .0 ∷ mode ∷ t .0 ∷ mbec ∷ [])
+eventText (Made v mode (Envp w t rip rsp cr0)) = text envp (v .0 ∷ mode ∷ w .0 ∷ t .0 ∷ rip ∷ rsp ∷ cr0 ∷ [])
+eventText (Made v mode (Call len)) = text call (v .0 ∷ mode ∷ len ∷ [])
+eventText (Made v mode (Ret len)) = text ret (v .0 ∷ mode ∷ len ∷ [])
+eventText (Made v mode (Read p)) = text read (v .0 ∷ mode ∷ p .0 ∷ [])
+eventText (Made v mode (Write p x)) = text write (v .0 ∷ mode ∷ p .0 ∷ x ∷ [])
+eventText (Made v mode (Fetch p)) = text fetch (v .0 ∷ mode ∷ p .0 ∷ [])
+eventText (Made v mode (Protect p mask)) = text protect (v .0 ∷ mode ∷ p .0 ∷ mask ∷ [])
+eventText (Made v mode (Config g word)) = text config (v .0 ∷ mode ∷ g .0 ∷ word ∷ [])
+eventText (Made v mode (Secure l word)) = text secure (v .0 ∷ mode ∷ l .0 ∷ word ∷ [])
+eventText (Made v mode Flush) = text flush (v .0 ∷ mode ∷ [])
+eventText (Made v mode (Rreg g r)) = text rreg (v .0 ∷ mode ∷ g .0 ∷ r ∷ [])
+eventText (Made v mode (Wreg g r x)) = text wreg (v .0 ∷ mode ∷ g .0 ∷ r ∷ x ∷ [])
+eventText (Made v mode (Tpr class)) = text tpr (v .0 ∷ mode ∷ class ∷ [])
+eventText (Made v mode Ack) = text ack (v .0 ∷ mode ∷ [])
 eventText (Int w g vector) = text int (w .0 ∷ g .0 ∷ vector ∷ [])
-eventText (Pstat v mode) = text pstat (v .0 ∷ mode ∷ [])
-eventText (Vstat v mode) = text vstat (v .0 ∷ mode ∷ [])
-eventText (Caps v mode) = text caps (v .0 ∷ mode ∷ [])
+eventText (Made v mode Pstat) = text pstat (v .0 ∷ mode ∷ [])
+eventText (Made v mode Vstat) = text vstat (v .0 ∷ mode ∷ [])
+eventText (Made v mode Caps) = text caps (v .0 ∷ mode ∷ [])
 
 unfoldable pub eventLine : Event → List ℕ
 eventLine e = written (eventText e)

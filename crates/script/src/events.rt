@@ -2,6 +2,7 @@
 ghost use mathlib.Core.Path.{_≡_};
 ghost use Rattle.script.specs.Words.{eventOf};
 use crate::words::Word;
+use model::event::Action;
 use model::event::Event;
 use model::quantity::Level;
 use model::quantity::Page;
@@ -24,73 +25,126 @@ pub fn event(word: Word, values: &[u64; 7]) -> Event
     let length = third;
     let class = third;
     match word {
-        Word::Enpart => Event::Enpart {
+        Word::Enpart => Event::Made {
             vp,
             mode,
-            target,
-            mbec: fourth,
+            action: Action::Enpart {
+                target,
+                mbec: fourth,
+            },
         },
-        Word::Envp => Event::Envp {
+        Word::Envp => Event::Made {
             vp,
             mode,
-            on: Processor(third),
-            target: Level(fourth),
-            rip: fifth,
-            rsp,
-            cr0,
+            action: Action::Envp {
+                on: Processor(third),
+                target: Level(fourth),
+                rip: fifth,
+                rsp,
+                cr0,
+            },
         },
-        Word::Call => Event::Call { vp, mode, length },
-        Word::Ret => Event::Ret { vp, mode, length },
-        Word::Read => Event::Read { vp, mode, page },
-        Word::Write => Event::Write {
+        Word::Call => Event::Made {
             vp,
             mode,
-            page,
-            value: fourth,
+            action: Action::Call { length },
         },
-        Word::Fetch => Event::Fetch { vp, mode, page },
-        Word::Protect => Event::Protect {
+        Word::Ret => Event::Made {
             vp,
             mode,
-            page,
-            mask: fourth,
+            action: Action::Ret { length },
         },
-        Word::Config => Event::Config {
+        Word::Read => Event::Made {
             vp,
             mode,
-            target,
-            word: fourth,
+            action: Action::Read { page },
         },
-        Word::Secure => Event::Secure {
+        Word::Write => Event::Made {
             vp,
             mode,
-            target,
-            word: fourth,
+            action: Action::Write {
+                page,
+                value: fourth,
+            },
         },
-        Word::Flush => Event::Flush { vp, mode },
-        Word::Rreg => Event::Rreg {
+        Word::Fetch => Event::Made {
             vp,
             mode,
-            target,
-            register: fourth,
+            action: Action::Fetch { page },
         },
-        Word::Wreg => Event::Wreg {
+        Word::Protect => Event::Made {
             vp,
             mode,
-            target,
-            register: fourth,
-            value: fifth,
+            action: Action::Protect { page, mask: fourth },
         },
-        Word::Tpr => Event::Tpr { vp, mode, class },
-        Word::Ack => Event::Ack { vp, mode },
+        Word::Config => Event::Made {
+            vp,
+            mode,
+            action: Action::Config {
+                target,
+                word: fourth,
+            },
+        },
+        Word::Secure => Event::Made {
+            vp,
+            mode,
+            action: Action::Secure {
+                target,
+                word: fourth,
+            },
+        },
+        Word::Flush => Event::Made {
+            vp,
+            mode,
+            action: Action::Flush,
+        },
+        Word::Rreg => Event::Made {
+            vp,
+            mode,
+            action: Action::Rreg {
+                target,
+                register: fourth,
+            },
+        },
+        Word::Wreg => Event::Made {
+            vp,
+            mode,
+            action: Action::Wreg {
+                target,
+                register: fourth,
+                value: fifth,
+            },
+        },
+        Word::Tpr => Event::Made {
+            vp,
+            mode,
+            action: Action::Tpr { class },
+        },
+        Word::Ack => Event::Made {
+            vp,
+            mode,
+            action: Action::Ack,
+        },
         // int w g vector
         Word::Int => Event::Int {
             on: vp,
             target: Level(second),
             vector: third,
         },
-        Word::Pstat => Event::Pstat { vp, mode },
-        Word::Vstat => Event::Vstat { vp, mode },
-        Word::Caps => Event::Caps { vp, mode },
+        Word::Pstat => Event::Made {
+            vp,
+            mode,
+            action: Action::Pstat,
+        },
+        Word::Vstat => Event::Made {
+            vp,
+            mode,
+            action: Action::Vstat,
+        },
+        Word::Caps => Event::Made {
+            vp,
+            mode,
+            action: Action::Caps,
+        },
     }
 }

@@ -3,6 +3,9 @@ ghost use mathlib.Core.Path.{_≡_};
 ghost use Prim.Native.Nat.{_+_, _≤_};
 ghost use lib.ListN.{length};
 ghost use lib.Seq.{sets};
+ghost use Rattle.model.specs.declared.answer.Answer.the-variants.{Refused};
+ghost use Rattle.model.specs.declared.answer.Refusal.the-variants.{Malformed};
+ghost use Rattle.model.specs.State.{level};
 ghost use Rattle.model.specs.WellFormed.{wellFormed};
 ghost use Rattle.listing.specs.Answer.{answerText};
 ghost use Rattle.listing.specs.Listing.{answered, recordOf};
@@ -14,7 +17,6 @@ use listing::number_of;
 use listing::processor_of;
 use listing::value_of;
 use model::answer::Answer;
-use model::answer::Refusal;
 use model::quantity::Level;
 use partition::level::Levels;
 use processor::record::Record;
@@ -41,6 +43,15 @@ fn write_answer(out: &mut [u8], at: usize, number: u64, a: Answer, active: Level
     )
 }
 
+// Writes the record of a line that says no event, in the same way.
+fn write_malformed(out: &mut [u8], at: usize, number: u64) -> usize
+    requires { ⌜ at + 84 ≤ length (now out) ⌝ }
+    ensures { λ r. ⌜ r ≡ at + length (answerText number (Refused Malformed) (level 0)) ⌝ }
+    ensures { λ _. ⌜ now (out .exit) ≡ sets (now (out .entry)) at (answerText number (Refused Malformed) (level 0)) ⌝ }
+{
+    write_line(out, at, number, 1, 0, 0)
+}
+
 // Answers line `number`, which the bytes of `line` are, in a state that is well formed as `formed` tells, and writes its record
 // into `out` from `at` on. Returns the place after it.
 pub(crate) fn answer_line(
@@ -63,8 +74,7 @@ pub(crate) fn answer_line(
     ensures out { λ _. ⌜ (let s = stateOf (machineOf c (now (levels .entry)) (now (masks .entry)) (now (vps .entry))) (now (words .entry)) in now (out .exit) ≡ sets (now (out .entry)) at (recordOf number (answered s (lineEvent (now (line .entry)))))) ⌝ }
 {
     let Parsed::Event(e) = script::parse(line) else {
-        let refused = Answer::Refused(Refusal::Malformed);
-        return write_answer(out, at, number, refused, Level(0));
+        return write_malformed(out, at, number);
     };
     let v = processor_of(e).0;
     let a = step_if(formed, c, levels, masks, vps, words, e);

@@ -1,3 +1,4 @@
 -- The laws that the proofs of src/ share. Assumes nothing.
-pub mod Requests  -- the request of an event gives what its rule gives
-pub mod Whole  -- an operation on the parts, put back, is what the rule gives
+pub mod Missing  -- a processor that is not there
+pub mod Lifted  -- what an event's function says of its parts, said of the machine
+pub mod Whole  -- a step on a state that is known to be well formed or not

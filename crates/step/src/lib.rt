@@ -1,47 +1,58 @@
 // One event on a whole machine (01, "Events"). What the machine holds of levels, pages and processors is lent and changed in place,
 // as the words of the pages are: no event copies more than it changes. `machineOf` of crate `state` says which machine the parts are.
-ghost use mathlib.Core.Bool.{_&&_};
+ghost use mathlib.Core.Bool.{true, false, cond};
+ghost use mathlib.Core.List.{List};
 ghost use mathlib.Core.Path.{_≡_};
-ghost use Prim.Native.Nat.{_≤_, _<_};
+ghost use Prim.Native.Nat.{ℕ, _≤_, _<_};
 ghost use lib.Dec.{ltb};
-ghost use lib.ListN.{length, set};
+ghost use lib.ListN.{length};
+ghost use Rattle.model.specs.declared.event.Event.the-variants.{Made};
 ghost use Rattle.model.specs.Step.{ruled as ruledOf, step as stepOf};
-ghost use Rattle.events.specs.Conditions.{ifDone};
-ghost use Rattle.partition.specs.Levels.{levelsOf};
-ghost use Rattle.processor.specs.Record.{vpsOf};
+ghost use Rattle.word.specs.Field.{bit};
+ghost use Rattle.model.specs.Bounded.{any};
+ghost use Rattle.model.specs.Events.{locked as lockedFor};
+ghost use Rattle.model.specs.State.{noVp, secureOf, lockBit};
+ghost use Rattle.processor.specs.Record.{vpOf};
+ghost use Rattle.events.specs.Scope.{scopeOf};
 ghost use Rattle.state.specs.Parts.{machineOf, stateOf};
-ghost use Rattle.operation.specs.Operation.{wordsDone};
-ghost use Rattle.step.specs.Stepped.{operatedOn, enteredBy, pageOn, stepIf};
-use entry::enter;
-use events::answers::is_done;
+ghost use Rattle.step.specs.Stepped.{known, stepIf};
+use access_events::access;
+use entry_events::call;
+use entry_events::envp;
+use entry_events::int;
+use entry_events::ret;
+use events::level_events::config;
+use events::level_events::enpart;
+use events::level_events::protect;
 use events::scope::Scope;
 use events::status_events::flush;
+use events::status_events::pstat;
 use model::answer::Answer;
 use model::answer::Refusal;
+use model::event::Action;
 use model::event::Event;
 use model::machine::Shape;
 use model::quantity::Access;
-use model::quantity::Page;
 use model::quantity::Processor;
-use operation::locked;
-use operation::on_levels;
-use operation::on_page;
-use operation::on_processor;
-use operation::queried;
-use operation::scope;
-use operation::store_word;
 use partition::level::Levels;
+use partition::level::enabled_level_set;
+use partition::level::mbec_level_set;
 use processor::record::Record;
 use processor::record::active_of;
-use request::Operation;
-use request::ProcessorOperation;
-use request::request_of;
+use processor::secure::holds_lock;
+use record_events::ack;
+use record_events::caps;
+use record_events::rreg;
+use record_events::secure;
+use record_events::tpr;
+use record_events::vstat;
+use record_events::wreg;
 use state::formed::well_formed;
 use state::parts::Setup;
 
 // Is v one of so many processors?
 fn is_processor(processors: u64, v: Processor) -> bool
-    ensures { λ r. ⌜ r ≡ (ltb (v .0) processors && ltb (v .0) 4) ⌝ }
+    ensures { λ r. ⌜ r ≡ known processors (v .0) ⌝ }
 {
     (v.0 < processors) & (v.0 < 4)
 }
@@ -54,89 +65,134 @@ fn places(vps: &[Record; 4]) -> usize
     all.len()
 }
 
-// An operation on the record of processor w.
-fn change_processor(
-    c: Scope,
-    vps: &mut [Record; 4],
-    v: Processor,
-    mode: u64,
-    w: Processor,
-    x: ProcessorOperation,
-) -> Answer
-    requires { ⌜ w .0 < 4 ⌝ }
-    ensures answer { λ r. ⌜ r ≡ operatedOn c (vpsOf (now (vps .entry))) (v .0) mode (w .0) x .answer ⌝ }
-    ensures vps { λ _. ⌜ (let ps = vpsOf (now (vps .entry)) in vpsOf (now (vps .exit)) ≡ set ps (w .0) (operatedOn c ps (v .0) mode (w .0) x .vp)) ⌝ }
+// The scope of an event that processor v makes.
+fn scope(c: Setup, levels: &Levels, vps: &[Record; 4], v: Processor) -> Scope
+    requires { ⌜ known (c .processors) (v .0) ≡ true ⌝ }
+    ensures { λ r. ⌜ ((masks words : List ℕ) → r ≡ scopeOf (stateOf (machineOf c (now (levels .entry)) masks (now (vps .entry))) words) (v .0)) ⌝ }
 {
-    places(vps);
-    let j = w.0 as usize;
-    on_processor(c, &mut vps[j], v, mode, w, x)
-}
-
-// An intercept enters its receiver on processor w, reason 2; any other answer leaves the records.
-fn intercept(z: Shape, vps: &mut [Record; 4], w: Processor, answer: Answer)
-    requires { ⌜ w .0 < 4 ⌝ }
-    ensures { λ _. ⌜ vpsOf (now (vps .exit)) ≡ enteredBy z (vpsOf (now (vps .entry))) (w .0) answer ⌝ }
-{
-    places(vps);
-    match answer {
-        Answer::Done(_) => {}
-        Answer::Refused(_) => {}
-        Answer::Intercept(l) => {
-            let j = w.0 as usize;
-            enter(z, &mut vps[j], l.0, 2);
-        }
+    let shape = c.shape;
+    let i = v.0 as usize;
+    Scope {
+        shape,
+        processors: c.processors,
+        pages: c.pages,
+        actor: active_of(&vps[i]),
+        enabled: enabled_level_set(shape, levels),
+        mbec: mbec_level_set(shape, levels),
     }
 }
 
-// A write that is done stores its word.
-fn store_done(words: &mut [u64], answer: Answer, page: Page, access: Access, value: u64)
-    ensures { λ _. ⌜ now (words .exit) ≡ ifDone answer (wordsDone (now (words .entry)) (page .0) access value) (now (words .entry)) ⌝ }
+// Does a level hold a TLB lock on level l, if there is a processor with that record?
+fn lock_at(there: bool, z: Shape, p: &Record, l: u64) -> bool
+    ensures { λ r. ⌜ r ≡ any 4 (λ t. bit (secureOf z (cond there (vpOf (now (p .entry))) noVp) t l) lockBit) ⌝ }
 {
-    if is_done(answer) {
-        store_word(words, page, access, value);
-    }
+    let held = holds_lock(z, p, l);
+    there & held
 }
 
-// An access by processor w: a write that is done stores its word, and an intercept enters its receiver.
-fn access_page(
-    c: Scope,
-    levels: &Levels,
-    masks: &[u64; 256],
-    host_mask: u64,
+// flush: does a level hold a TLB lock on level l on any processor?
+fn locked(c: Setup, vps: &[Record; 4], l: u64) -> bool
+    ensures { λ r. ⌜ ((levels masks words : List ℕ) → lockedFor (stateOf (machineOf c levels masks (now (vps .entry))) words) l ≡ r) ⌝ }
+{
+    let zeroth = lock_at(0 < c.processors, c.shape, &vps[0], l);
+    let first = lock_at(1 < c.processors, c.shape, &vps[1], l);
+    let second = lock_at(2 < c.processors, c.shape, &vps[2], l);
+    let third = lock_at(3 < c.processors, c.shape, &vps[3], l);
+    zeroth | first | second | third
+}
+
+// The rule of what a level does on processor v, which is there, in a mode of 0 or 1.
+fn acted(
+    c: Setup,
+    levels: &mut Levels,
+    masks: &mut [u64; 256],
     vps: &mut [Record; 4],
     words: &mut [u64],
     v: Processor,
     mode: u64,
-    w: Processor,
-    page: Page,
-    access: Access,
-    value: u64,
+    a: Action,
 ) -> Answer
-    requires { ⌜ w .0 < 4 ⌝ }
-    ensures answer { λ r. ⌜ r ≡ pageOn c (vpsOf (now (vps .entry))) (levelsOf (now (levels .entry))) (now (masks .entry)) «host_mask» (now (words .entry)) (v .0) mode (w .0) (page .0) access ⌝ }
-    ensures vps { λ r. ⌜ vpsOf (now (vps .exit)) ≡ enteredBy (c .shape) (vpsOf (now (vps .entry))) (w .0) r ⌝ }
-    ensures words { λ r. ⌜ now (words .exit) ≡ ifDone r (wordsDone (now (words .entry)) (page .0) access value) (now (words .entry)) ⌝ }
+    requires { ⌜ (c .processors ≤ 4) × (known (c .processors) (v .0) ≡ true) × (ltb 1 mode ≡ false) ⌝ }
+    ensures { λ r. ⌜ record { answer = r; next = stateOf (machineOf c (now (levels .exit)) (now (masks .exit)) (now (vps .exit))) (now (words .exit)) } ≡ ruledOf (stateOf (machineOf c (now (levels .entry)) (now (masks .entry)) (now (vps .entry))) (now (words .entry))) (Made v mode a) ⌝ }
 {
-    let j = w.0 as usize;
-    let answer = on_page(
-        c,
-        &vps[j],
-        levels,
-        masks,
-        host_mask,
-        words,
-        v,
-        mode,
-        page,
-        access,
-    );
-    store_done(words, answer, page, access, value);
-    intercept(c.shape, vps, w, answer);
-    answer
+    let given = scope(c, levels, vps, v);
+    places(vps);
+    let i = v.0 as usize;
+    match a {
+        Action::Enpart { target, mbec } => enpart(given, levels, mode, target, mbec),
+        Action::Envp {
+            on,
+            target,
+            rip,
+            rsp,
+            cr0,
+        } => {
+            if !is_processor(c.processors, on) {
+                return Answer::Refused(Refusal::NoSuchProcessor);
+            }
+            let j = on.0 as usize;
+            envp(given, &mut vps[j], mode, on, target, rip, rsp, cr0)
+        }
+        Action::Call { length } => call(given, &mut vps[i], mode, length),
+        Action::Ret { length } => ret(given, &mut vps[i], mode, length),
+        Action::Read { page } => access(
+            given,
+            &mut vps[i],
+            levels,
+            masks,
+            c.host_mask,
+            words,
+            mode,
+            page,
+            Access::Read,
+            0,
+        ),
+        Action::Write { page, value } => access(
+            given,
+            &mut vps[i],
+            levels,
+            masks,
+            c.host_mask,
+            words,
+            mode,
+            page,
+            Access::Write,
+            value,
+        ),
+        Action::Fetch { page } => access(
+            given,
+            &mut vps[i],
+            levels,
+            masks,
+            c.host_mask,
+            words,
+            mode,
+            page,
+            Access::Fetch,
+            0,
+        ),
+        Action::Protect { page, mask } => protect(given, levels, masks, mode, page, mask),
+        Action::Config { target, word } => config(given, levels, masks, mode, target, word),
+        Action::Secure { target, word } => secure(given, &mut vps[i], mode, target, word),
+        Action::Flush => {
+            let held = locked(c, vps, given.actor);
+            flush(held, mode)
+        }
+        Action::Rreg { target, register } => rreg(given, &vps[i], mode, target, register),
+        Action::Wreg {
+            target,
+            register,
+            value,
+        } => wreg(given, &mut vps[i], mode, target, register, value),
+        Action::Tpr { class } => tpr(given, &mut vps[i], mode, class),
+        Action::Ack => ack(given, &mut vps[i], mode),
+        Action::Pstat => pstat(given, mode),
+        Action::Vstat => vstat(given, &vps[i], mode),
+        Action::Caps => caps(given, mode),
+    }
 }
 
-// The rule of an event. The processors that the event names are looked at first: without them it is malformed. Then at most one
-// record changes.
+// The rule of an event. Its processor and its mode are looked at first: without them it is malformed.
 fn ruled(
     c: Setup,
     levels: &mut Levels,
@@ -148,45 +204,25 @@ fn ruled(
     requires { ⌜ c .processors ≤ 4 ⌝ }
     ensures { λ r. ⌜ record { answer = r; next = stateOf (machineOf c (now (levels .exit)) (now (masks .exit)) (now (vps .exit))) (now (words .exit)) } ≡ ruledOf (stateOf (machineOf c (now (levels .entry)) (now (masks .entry)) (now (vps .entry))) (now (words .entry))) e ⌝ }
 {
-    let request = request_of(e);
-    let v = request.maker;
-    let w = request.on;
-    let mode = request.mode;
-    let operation = request.operation;
-    let named = is_processor(c.processors, v) & is_processor(c.processors, w);
-    if !named {
-        return Answer::Refused(Refusal::Malformed);
-    }
-    let i = v.0 as usize;
-    let j = w.0 as usize;
-    let actor = active_of(&vps[i]);
-    let given = scope(c.shape, c.processors, c.pages, levels, actor);
-    match operation {
-        Operation::OnProcessor(x) => change_processor(given, vps, v, mode, w, x),
-        Operation::OnLevels(x) => on_levels(given, levels, masks, v, mode, x),
-        Operation::OnPage {
-            page,
-            access,
-            value,
-        } => access_page(
-            given,
-            levels,
-            masks,
-            c.host_mask,
-            vps,
-            words,
-            v,
-            mode,
-            w,
-            page,
-            access,
-            value,
-        ),
-        Operation::Flush => {
-            let held = locked(c.shape, c.processors, vps, actor);
-            flush(given, held, v, mode)
+    match e {
+        Event::Made { vp, mode, action } => {
+            if !is_processor(c.processors, vp) {
+                return Answer::Refused(Refusal::NoSuchProcessor);
+            }
+            if 1 < mode {
+                return Answer::Refused(Refusal::NoSuchMode);
+            }
+            acted(c, levels, masks, vps, words, vp, mode, action)
         }
-        Operation::OnNothing(x) => queried(given, &vps[j], v, mode, x),
+        Event::Int { on, target, vector } => {
+            if !is_processor(c.processors, on) {
+                return Answer::Refused(Refusal::NoSuchProcessor);
+            }
+            let given = scope(c, levels, vps, on);
+            places(vps);
+            let j = on.0 as usize;
+            int(given, &mut vps[j], on, target, vector)
+        }
     }
 }
 

@@ -1,133 +1,59 @@
--- `ruled` meets its contract: the laws of proofs/Whole.antt at each return. Assumes nothing.
-use Prim.Native.Nat.{ℕ, _<_}
-use Rattle.request.specs.Request.{requestOf}
-use Rattle.request.specs.declared.Request.{Request}
-use Rattle.model.specs.declared.event.Event.{Event}
-use Rattle.model.specs.declared.machine.Machine.{Machine}
-use Rattle.state.specs.Parts.{machineOf}
-use Rattle.step.proofs.Whole.{there, missing, maker-lt, on-lt, scope-of, vps-at, vp-left, levels-left, page-left, flush-left, query-left}
-use mathlib.Core.Bool.{Bool, true, false, not, _&&_}
-use mathlib.Core.List.{List}
+-- `ruled` meets its contract: without its processor or its mode an event is malformed, and else its function says what the rule gives.
+-- Assumes nothing.
 use mathlib.Core.Path.{_≡_, refl, sym, _∙_}
+use mathlib.Core.Bool.{true, not}
+use Prim.Native.Nat.{_<_}
 use native.Mathlib.Omega.{arith}
+use borrow.Author.Tests.{not-false, not-true, lt-ltb, le-ltb}
+use Rattle.model.specs.State.{processors}
+use Rattle.state.specs.Parts.{machineOf}
+use Rattle.step.specs.Stepped.{known}
+use Rattle.step.proofs.Lifted.{low, lifted}
+use Rattle.step.proofs.Missing.{unmade, unmoded, no-receiver}
 use borrow.Author.Needs.{needs}
 use Rattle.step.proofs.ruled.Statement.{statement}
 use Rattle.step.proofs.ruled.Tie as tie
 
--- The processors that the event names are there, as the two tests tell.
-opposite : (a b : Bool) → not a ≡ not b → a ≡ b
-opposite true true h = refl
-opposite true false h = sym h
-opposite false true h = sym h
-opposite false false h = refl
-
-both-there : (c : tie.After-is-processor2) (b : Bool) → not (c .before .is-processor .result && c .is-processor2 .result) ≡ not b
-    → there (c .before .before .before .before .before .before .args .c .processors) (c .before .before .before .before .request-of .result) ≡ b
-both-there c b h = rw (← c .before .is-processor .ensures, ← c .is-processor2 .ensures) (opposite _ b h)
-
--- What the code has where both are there: the request with its machine, and the scope.
-abbrev machine-of : tie.Else1 → Machine
-machine-of c = let a = c .before .before .before .before .before .before .before .args in machineOf (a .c) (a .levels .now) (a .masks .now) (a .vps .now)
-
-abbrev words-of : tie.Else1 → List ℕ
-words-of c = c .before .before .before .before .before .before .before .args .words .now
-
-abbrev event-of : tie.Else1 → Event
-event-of c = c .before .before .before .before .before .before .before .args .e
-
-abbrev request-for : tie.Else1 → Request
-request-for c = c .before .before .before .before .before .request-of .result
-
-asked-for : (c : tie.Else1) → request-for c ≡ requestOf (event-of c)
-asked-for c = c .before .before .before .before .before .request-of .ensures
-
-named : (c : tie.Else1) → there (machine-of c .processors) (request-for c) ≡ true
-unfolding machineOf
-named c = both-there (c .before) true (c .if1 .left)
-
-maker-low : (c : tie.Else1) → request-for c .maker .0 < 4
-maker-low c = maker-lt (machine-of c) (words-of c) (event-of c) (request-for c) (asked-for c) (named c)
-
-on-low : (c : tie.Else1) → request-for c .on .0 < 4
-on-low c = on-lt (machine-of c) (words-of c) (event-of c) (request-for c) (asked-for c) (named c)
-
-scope-known : (c : tie.After-scope) → let k = c .before .before .before .before in c .scope .result ≡ scope-of (machine-of k) (words-of k) (event-of k) (request-for k) (asked-for k) (named k)
-unfolding machineOf
-scope-known c = let k = c .before .before .before .before in rw (c .scope .ensures, c .before .before .active-of .ensures, vps-at _ _ (maker-low k))
-
 returns : tie.Need-returns
-unfolding machineOf
-returns c =
-    let q = c .before .before .before .before .before in
-    let a = q .before .before .args in
-    missing (machineOf (a .c) (a .levels .now) (a .masks .now) (a .vps .now)) (a .words .now) (a .e) (q .request-of .result) (q .request-of .ensures) (q .before .before .pre) (both-there (c .before) false (c .if1 .taken))
-
-mul-active-of : tie.Need-mul-active-of
-mul-active-of c = record { fits = omega (arith, maker-low c) }
-
-index-1-active-of : tie.Need-index-1-active-of
-index-1-active-of c = maker-low c
-
-change-processor-requires : tie.Need-change-processor-requires
-change-processor-requires c κs = on-low (c .before .before .before .before .before .before .before .before)
-
-access-page-requires : tie.Need-access-page-requires
-access-page-requires c κs = on-low (c .before .before .before .before .before .before .before .before .before .before .before)
-
-mul-queried : tie.Need-mul-queried
-mul-queried c = record { fits = omega (arith, on-low (c .before .before .before .before .before .before .before)) }
-
-index-1-queried : tie.Need-index-1-queried
-index-1-queried c = on-low (c .before .before .before .before .before .before .before)
+unfolding machineOf processors
+returns c = rw (c .before .before .before .e .given .1) (unmade _ (c .before .before .before .before .before .before .pre) _ _ _ (sym (c .before .is-processor .ensures) ∙ not-true _ (c .if1 .taken)))
 
 returns-2 : tie.Need-returns-2
-unfolding machineOf
-returns-2 c =
-    let k = c .before .before .before .before .before .before .before .before .before in
-    let known = scope-known (c .before .before .before .before .before) in
-    vp-left (machine-of k) (words-of k) (event-of k) (request-for k) (asked-for k) (named k) _ (c .before .before .before .operation .given .1) _ _
-    (c .change-processor .ensures .0 ∙ rw known) (c .change-processor .ensures .1 ∙ rw known)
+unfolding machineOf processors
+returns-2 c = rw (c .before .before .before .before .e .given .1) (unmoded _ (c .before .before .before .before .before .before .before .pre) _ _ _ (sym (c .before .before .is-processor .ensures) ∙ not-false _ (c .before .if1 .left)) (lt-ltb _ _ (c .if2 .taken)))
+
+acted-requires : tie.Need-acted-requires
+acted-requires c κs = (c .before .before .before .before .before .before .before .before .before .before .before .pre, sym (c .before .before .before .before .before .before .is-processor .ensures) ∙ not-false _ (c .before .before .before .before .before .if1 .left), le-ltb _ _ (c .before .before .before .before .if2 .left))
 
 returns-3 : tie.Need-returns-3
-unfolding machineOf
-returns-3 c =
-    let k = c .before .before .before .before .before .before .before .before .before .before in
-    let known = scope-known (c .before .before .before .before .before .before) in
-    let done = c .on-levels .ensures in
-    levels-left (machine-of k) (words-of k) (event-of k) (request-for k) (asked-for k) (named k) _ (c .before .before .before .before .operation2 .given .1) _ _ _
-    (done .0 ∙ rw known) (done .1 .0 ∙ rw known) (done .1 .1 ∙ rw known)
+unfolding machineOf processors
+returns-3 c = rw (c .before .before .before .e2 .given .1) (no-receiver _ (c .before .before .before .before .before .before .pre) _ _ _ (sym (c .before .is-processor2 .ensures) ∙ not-true _ (c .if3 .taken)))
+
+-- The processor of an interrupt is there.
+on-there : (c : tie.Else3) → known (c .before .before .before .before .before .before .args .c .processors) (c .before .before .before .e2 .given .0 .0 .0) ≡ true
+on-there c = sym (c .before .is-processor2 .ensures) ∙ not-false _ (c .if3 .left)
+
+on-low : (c : tie.After-places) → c .before .before .before .before .before .before .before .before .e2 .given .0 .0 .0 < 4
+on-low c = low (c .before .before .before .before .before .before .before .before .before .before .before .args .c .processors) _ (on-there (c .before .before .before .before .before))
+
+scope-requires : tie.Need-scope-requires
+scope-requires c κs = on-there (c .before .before)
 
 returns-4 : tie.Need-returns-4
-unfolding machineOf
-returns-4 c =
-    let k = c .before .before .before .before .before .before .before .before .before .before .before .before .before .before in
-    let known = scope-known (c .before .before .before .before .before .before .before .before .before .before) in
-    let done = c .before .before .access-page .ensures in
-    page-left (machine-of k) (words-of k) (event-of k) (request-for k) (asked-for k) (named k) _ _ _ (c .before .before .before .before .before .before .before .before .operation3 .given .1) _ _ _
-    (done .0 ∙ rw known) (done .1 .0 ∙ rw known) (done .1 .1)
+returns-4 c = rw (c .before .before .before .before .before .before .before .before .before .before .before .e .given .1) (c .before .before .acted .ensures)
 
 returns-5 : tie.Need-returns-5
-unfolding machineOf
 returns-5 c =
-    let k = c .before .before .before .before .before .before .before .before .before in
-    let known = scope-known (c .before .before .before .before .before) in
-    flush-left (machine-of k) (words-of k) (event-of k) (request-for k) (asked-for k) (named k) (c .before .before .before .enum-told .given .1) _
-    (c .flush .ensures ∙ rw (c .before .locked .ensures, c .before .before .before .before .before .before .before .active-of .ensures, known, vps-at _ _ (maker-low k)))
-
-returns-6 : tie.Need-returns-6
-unfolding machineOf
-returns-6 c =
-    let k = c .before .before .before .before .before .before .before .before .before in
-    let known = scope-known (c .before .before .before .before .before) in
-    query-left (machine-of k) (words-of k) (event-of k) (request-for k) (asked-for k) (named k) _ (c .before .before .before .operation4 .given .1) _
-    (c .queried .ensures ∙ rw (known, vps-at _ _ (on-low k)))
+    let p = c .before .before in
+    let x = p .before .before .before .before .before .before .before .before .before .before .before in
+    let h = on-there (p .before .before .before .before .before) in
+    lifted (x .args .c) (x .args .levels .now) (x .args .masks .now) (x .args .vps .now) (x .args .words .now) _ _ 0 _ _ (p .before .before .before .before .before .before .before .before .e2 .given .1) h h refl
+    (p .before .before .scope .ensures (x .args .masks .now) (x .args .words .now)) _ (p .places .ensures) (c .int .ensures)
 
 pub ruled-spec : {M : Type 1} → statement M
 ruled-spec =
     tie.close
     (tie.spec
-    (λ c κs. search needs) (λ c κs. search needs) (λ c κs. search needs) returns mul-active-of index-1-active-of
-    (λ c κs. search needs) (λ c κs. search needs) (λ c. search needs) change-processor-requires (λ c. search needs)
-    (λ c κs. search needs) (λ c. search needs) access-page-requires (λ c. search needs) (λ c κs. search needs)
-    (λ c κs. search needs) (λ c. search needs) mul-queried index-1-queried (λ c κs. search needs) returns-2 returns-3
-    (λ c. search needs) returns-4 returns-5 returns-6)
+    (λ c. search needs) (λ c κs. search needs) returns returns-2 acted-requires (λ c. search needs) (λ c κs. search needs) returns-3
+    scope-requires (λ c κs. search needs) (λ c. record { fits = omega (arith, on-low c) }) (λ c. on-low c)
+    (λ c κs. search needs) (λ c. search needs) returns-4 returns-5)

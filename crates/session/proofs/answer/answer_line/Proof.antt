@@ -3,7 +3,7 @@ use Prim.Native.Nat.{ℕ, _+_, _%_, _<_}
 use Rattle.model.specs.State.{activeOf}
 use Rattle.session.proofs.Ending.{told-malformed, told-next, told-formed, told-text}
 use Rattle.state.specs.Parts.{machineOf, stateOf}
-use Rattle.step.proofs.Whole.{vps-at}
+use Rattle.step.proofs.Lifted.{vps-at}
 use lib.ListN.{length}
 use lib.Seq.{sets}
 use mathlib.Core.List.{List}
@@ -13,8 +13,8 @@ use borrow.Author.Needs.{needs}
 use Rattle.session.proofs.answer.answer_line.Statement.{statement}
 use Rattle.session.proofs.answer.answer_line.Tie as tie
 
-write-answer-requires : tie.Need-write-answer-requires
-write-answer-requires c κs = c .before .before .before .before .before .before .before .pre .0
+write-malformed-requires : tie.Need-write-malformed-requires
+write-malformed-requires c κs = c .before .before .before .before .before .before .before .pre .0
 
 returns : tie.Need-returns
 returns c =
@@ -22,10 +22,10 @@ returns c =
     let start = c .before .before .before .before .before .before .before .before .before .before in
     let a = start .args in
     let told = told-malformed (a .number) (stateOf (machineOf (a .c) (a .levels .now) (a .masks .now) (a .vps .now)) (a .words .now)) _ (sym (c .before .before .before .before .before .before .parse .ensures) ∙ c .before .before .before .before .enum-told .given .1) in
-    (told .0, (start .pre .1, (w .write-answer .ensures .0 ∙ ap (λ (t : List ℕ). a .at + length t) (told .1), w .write-answer .ensures .1 ∙ ap (λ (t : List ℕ). sets (a .out .now) (a .at) t) (told .1))))
+    (told .0, (start .pre .1, (w .write-malformed .ensures .0 ∙ ap (λ (t : List ℕ). a .at + length t) (told .1), w .write-malformed .ensures .1 ∙ ap (λ (t : List ℕ). sets (a .out .now) (a .at) t) (told .1))))
 
-write-answer-requires-2 : tie.Need-write-answer-requires-2
-write-answer-requires-2 c κs = c .before .before .before .before .before .before .before .before .before .before .before .before .before .before .before .before .before .before .before .pre .0
+write-answer-requires : tie.Need-write-answer-requires
+write-answer-requires c κs = c .before .before .before .before .before .before .before .before .before .before .before .before .before .before .before .before .before .before .before .pre .0
 
 returns-2 : tie.Need-returns-2
 unfolding machineOf activeOf
@@ -44,7 +44,7 @@ returns-2 c =
       told-next (a .number) s _ _ _ said (a .formed) (start .pre .1) _ (done .ensures),
       (
         told-formed (a .number) s _ _ _ said (a .formed) (start .pre .1) _ (done .ensures),
-        (w .write-answer2 .ensures .0 ∙ ap (λ (t : List ℕ). a .at + length t) text, w .write-answer2 .ensures .1 ∙ ap (λ (t : List ℕ). sets (a .out .now) (a .at) t) text),
+        (w .write-answer .ensures .0 ∙ ap (λ (t : List ℕ). a .at + length t) text, w .write-answer .ensures .1 ∙ ap (λ (t : List ℕ). sets (a .out .now) (a .at) t) text),
       ),
     )
 
