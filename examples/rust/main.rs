@@ -112,6 +112,27 @@ fn check_fields() -> Result<usize, String> {
     Ok(WORDS.iter().map(|(_, _, values)| values.len()).sum())
 }
 
+/// The code page offsets of 001: VtlCallOffset and VtlReturnOffset, 12 bits each, written into a word and read back. Only the low 12
+/// bits of a value are written, and the 40 reserved bits stay.
+fn check_code_page_offsets() -> Checked {
+    let offsets = Register::CodePageOffsets;
+    let reserved = u64::MAX << 24;
+    for (before, call, back) in [
+        (0, 0x123, 0xabc),
+        (u64::MAX, 0, 0xfff),
+        (reserved, 0x1fff, 0x5000),
+    ] {
+        let word = with_field(offsets, 1, with_field(offsets, 0, before, call), back);
+        let (call, back) = (call & 0xfff, back & 0xfff);
+        if (field(offsets, 0, word), field(offsets, 1, word)) != (call, back)
+            || word != before & reserved | back << 12 | call
+        {
+            return Err(format!("code page offsets {call} and {back} in {before}"));
+        }
+    }
+    Ok(())
+}
+
 /// A machine, and then the events of the examples over and over until there are a million lines.
 fn long_script(root: &Path) -> Result<Vec<u8>, String> {
     let scripts = EXAMPLES
@@ -172,6 +193,8 @@ fn run() -> Checked {
         check_fields()?,
         WORDS.len()
     );
+    check_code_page_offsets()?;
+    println!("code page offsets are written into a word and read back");
     time_listings(&match arguments.get(2) {
         Some(name) => read(Path::new(name))?,
         None => long_script(root)?,

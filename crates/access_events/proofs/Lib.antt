@@ -1,2 +1,2 @@
--- The laws that the proofs of src/ share. Assumes nothing.
-pub mod Outcome  -- what an access leaves, by its answer
+pub mod AccessOutcome  -- what an access leaves, by its answer
+pub mod Receivers  -- who denies an access and who receives the intercept, by the parts

@@ -1,20 +1,15 @@
 -- An access to a page: the event of each kind, and what a state is after it. Assumes nothing.
-use mathlib.Core.Path.{_≡_}
 use mathlib.Core.List.{List}
 use Prim.Native.Nat.{ℕ}
 use lib.ListN.{set}
 use Rattle.model.specs.declared.event.Action.{Action}
 use Rattle.model.specs.declared.event.Action.the-variants as action
-use Rattle.model.specs.declared.machine.PartitionLevel.{PartitionLevel}
 use Rattle.model.specs.declared.machine.VirtualProcessor.{VirtualProcessor}
 use Rattle.model.specs.declared.quantity.Access.{Access}
 use Rattle.model.specs.declared.quantity.Access.the-variants.{Read, Write, Fetch}
 use Rattle.model.specs.declared.quantity.Page.{Page}
-use Rattle.model.specs.declared.quantity.Processor.{Processor}
 use Rattle.model.specs.State.{State}
 use Rattle.model.specs.Updates.{putVp}
-use Rattle.events.specs.declared.scope.Scope.{Scope}
-use Rattle.events.specs.Ruled.{Has, Keeps}
 
 -- What a level does by a kind of access; x is the word that a write stores.
 abbrev pub accessed : Access → Page → ℕ → Action
@@ -33,13 +28,6 @@ wordsDone words page Read x = words
 wordsDone words page Write x = set words page x
 wordsDone words page Fetch x = words
 
--- All that an access reads: scope and record of its maker, levels, masks, the host's mask and the words.
-pub record Sees (c : Scope) (v : Processor) (mode : ℕ) (p : VirtualProcessor) (xs : List PartitionLevel) (ks : List ℕ) (k : ℕ) (ws : List ℕ) (s : State) : Type 0 where
-  pub has : Has c v mode v p s
-  pub keeps : Keeps c v mode xs ks s
-  pub host : s .machine .«host_mask» ≡ k
-  pub words : s .words ≡ ws
-
 -- A state with another record of processor v and other words.
-abbrev pub putAccess : ℕ → VirtualProcessor → List ℕ → State → State
-putAccess v q ws s = record { machine = putVp s v q .machine; words = ws }
+abbrev pub putAccess : State → ℕ → VirtualProcessor → List ℕ → State
+putAccess s v p words = record { machine = putVp s v p .machine; words = words }

@@ -1,39 +1,50 @@
-// The accesses: read, write, fetch (01, "Memory"). Nothing is copied: record, masks and words are lent.
+// The accesses to a page: read, write, fetch (01, "Events" and "Memory"). An intercept enters its receiver; a write that is done stores
+// its word; all else changes nothing.
 ghost use mathlib.Core.Path.{_≡_};
+ghost use Prim.Native.Nat.{ℕ};
 ghost use lib.ListN.{getD};
-ghost use Rattle.model.specs.declared.event.Event.the-variants.{Made};
-ghost use Rattle.model.specs.declared.quantity.Processor.{Processor as Maker};
-ghost use Rattle.partition.specs.Levels.{levelsOf};
+ghost use Rattle.model.specs.State.{State, activeOf};
+ghost use Rattle.model.specs.Step.{acted};
+ghost use Rattle.partition.specs.PartitionView.{partitionOf};
 ghost use Rattle.processor.specs.Record.{vpOf};
-ghost use Rattle.events.specs.Ruled.{Gives};
-ghost use Rattle.access_events.specs.Access.{accessed, accessValue, wordsDone, Sees, putAccess};
+ghost use Rattle.promise.specs.Promise.{result, Runs, Acts, Lends};
+ghost use Rattle.access_events.specs.Access.{accessed, accessValue, wordsDone, putAccess};
 use entry::enter;
-use events::scope::Scope;
 use model::answer::Answer;
 use model::answer::Refusal;
+use model::machine::BY_INTERRUPT;
+use model::machine::Setup;
 use model::quantity::Access;
-use model::quantity::Level;
+use model::quantity::Mode;
+use model::quantity::NO_LEVEL;
 use model::quantity::Page;
+use partition::access::Attempt;
 use partition::access::denying_set;
 use partition::access::host_denies;
 use partition::access::lowest;
 use partition::level::Levels;
+use partition::mask::Masks;
 use processor::record::Record;
+use processor::record::active_of;
 use processor::record::enabled_set;
 use processor::secure::mbec_set;
 
-// The word of page p; 0 where none is lent.
-fn word_at(words: &[u64], p: Page) -> u64
-    ensures { λ r. ⌜ r ≡ getD (now (words .entry)) (p .0) 0 ⌝ }
-{
-    let i = p.0 as usize;
-    if i < words.len() {
-        return words[i];
-    }
-    0
+// What a level asks for: a kind of access to a page, in a mode. A write has the value that it stores beside it.
+pub struct Request {
+    pub mode: Mode,
+    pub page: Page,
+    pub access: Access,
 }
 
-// The value of an access that is done: a read's is the word.
+// The word of a page; 0 past the words that are lent.
+fn word_at(words: &[u64], page: Page) -> u64
+    ensures { λ r. ⌜ r ≡ getD (now (words .entry)) (page .0) 0 ⌝ }
+{
+    let i = page.0 as usize;
+    if i < words.len() { words[i] } else { 0 }
+}
+
+// The value of an access that is done, with the page's word.
 fn access_value(access: Access, word: u64) -> u64
     ensures { λ r. ⌜ r ≡ accessValue access word ⌝ }
 {
@@ -45,11 +56,11 @@ fn access_value(access: Access, word: u64) -> u64
 }
 
 // A write that is done stores its word; another access leaves the words.
-fn store_word(words: &mut [u64], page: Page, kind: Access, value: u64)
-    ensures { λ _. ⌜ now (words .exit) ≡ wordsDone (now (words .entry)) (page .0) kind value ⌝ }
+fn store_word(words: &mut [u64], page: Page, access: Access, value: u64)
+    ensures { λ _. ⌜ now (words .exit) ≡ wordsDone (now (words .entry)) (page .0) access value ⌝ }
 {
     let i = page.0 as usize;
-    match kind {
+    match access {
         Access::Read => {}
         Access::Write => {
             if i < words.len() {
@@ -62,47 +73,56 @@ fn store_word(words: &mut [u64], page: Page, kind: Access, value: u64)
 
 // An access: an intercept enters its receiver, reason 2, and a write that is done stores its word.
 pub fn access(
-    c: Scope,
-    p: &mut Record,
+    setup: Setup,
+    vp: &mut Record,
     levels: &Levels,
-    masks: &[u64; 256],
-    host_mask: u64,
+    masks: &Masks,
     words: &mut [u64],
-    mode: u64,
-    page: Page,
-    kind: Access,
+    request: Request,
     value: u64,
 ) -> Answer
-    ensures { λ r. ⌜ ((v : Maker) → Gives (Sees c v mode (vpOf (now (p .entry))) (levelsOf (now (levels .entry))) (now (masks .entry)) «host_mask» (now (words .entry))) (Made v mode (accessed kind page value)) r (putAccess (v .0) (vpOf (now (p .exit))) (now (words .exit)))) ⌝ }
+    ensures { λ r. ⌜ ((s : State) (v : ℕ)
+        → Runs (setup .shape) (vpOf (now (vp .entry))) s v
+        → Acts (setup .shape) (setup .pages) (partitionOf (now (levels .entry)) (now (masks .entry)))
+        (activeOf (vpOf (now (vp .entry)))) s v
+        → Lends (setup .«host_mask») (now (words .entry)) s
+        → acted s v (request .mode) (accessed (request .access) (request .page) value)
+        ≡ result r (putAccess s v (vpOf (now (vp .exit))) (now (words .exit)))) ⌝ }
 {
-    if c.pages <= page.0 {
+    let shape = setup.shape;
+    let mode = request.mode;
+    let page = request.page;
+    let access = request.access;
+    if setup.pages <= page.0 {
         return Answer::Refused(Refusal::NoSuchPage);
     }
-    let actor = Level(c.actor);
-    let mbecs = mbec_set(c.shape, p, c.actor);
-    let set = denying_set(
-        c.shape,
-        c.pages,
-        levels,
-        masks,
-        mbecs,
+    let actor = active_of(vp);
+    let attempt = Attempt {
         actor,
         mode,
         page,
-        kind,
+        access,
+    };
+    let denying = denying_set(
+        shape,
+        setup.pages,
+        levels,
+        masks,
+        mbec_set(shape, vp, actor),
+        attempt,
     );
-    let receiver = lowest(set, enabled_set(c.shape, p));
-    if receiver < 4 {
-        enter(c.shape, p, receiver, 2);
-        return Answer::Intercept(Level(receiver));
+    let receiver = lowest(denying, enabled_set(shape, vp));
+    if receiver.0 < NO_LEVEL {
+        enter(shape, vp, receiver, BY_INTERRUPT);
+        return Answer::Intercept(receiver);
     }
-    if set != 0 {
+    if denying.0 != 0 {
         return Answer::Refused(Refusal::NoReceiver);
     }
-    if host_denies(host_mask, kind) {
+    if host_denies(setup.host_mask, access) {
         return Answer::Refused(Refusal::HostDenies);
     }
-    let result = access_value(kind, word_at(words, page));
-    store_word(words, page, kind, value);
+    let result = access_value(access, word_at(words, page));
+    store_word(words, page, access, value);
     Answer::Done(result)
 }

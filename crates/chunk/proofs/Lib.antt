@@ -1,2 +1,2 @@
 -- The laws that the proofs of src/ share, and those of session. Assumes nothing.
-pub mod Lines  -- the lines of a chunk, found and kept
+pub mod ChunkLines  -- the lines of a chunk, found and kept

@@ -2,7 +2,7 @@
 use mathlib.Core.List.{List}
 use Prim.Native.Nat.{ℕ, min}
 use lib.ListN.{take}
-use Rattle.script.specs.Listing.{lineFeed}
+use Rattle.script.specs.ListingLine.{lineFeed}
 use Rattle.script.specs.Search.{byteAt, untilByte}
 
 -- How many bytes stand before the first line feed.
@@ -13,6 +13,10 @@ untilFeed bytes = untilByte lineFeed bytes
 abbrev pub lineEnd : List ℕ → ℕ → ℕ
 lineEnd chunk start = byteAt lineFeed chunk start
 
--- The bytes of the line that has not ended: so many of the buffer, which has 257.
+-- A line has at most 256 bytes; one more is kept, so that a longer line is known to be too long.
+abbrev pub keptBytes : ℕ
+keptBytes = 257
+
+-- The bytes of the line that has not ended: so many of the buffer.
 abbrev pub held : List ℕ → ℕ → List ℕ
-held buffer length = take (min length 257) buffer
+held buffer length = take (min length keptBytes) buffer

@@ -4,12 +4,12 @@ ghost use mathlib.Core.Path.{_≡_};
 ghost use Prim.Native.Nat.{min};
 ghost use lib.ListN.{take};
 ghost use Rattle.script.specs.First.{lineFirst};
-ghost use Rattle.chunk.specs.Chunk.{held, lineEnd};
+ghost use Rattle.chunk.specs.Chunk.{held, keptBytes, lineEnd};
 use script::Start;
 use script::search::find_far_byte;
 
 // A line has at most 256 bytes; one more is kept, so that a longer line is known to be too long.
-const KEPT: usize = 257;
+pub const KEPT_BYTES: usize = script::LONGEST_LINE + 1;
 
 // The smaller of two numbers.
 pub fn at_most(n: usize, most: usize) -> usize
@@ -27,14 +27,14 @@ pub fn line_end(chunk: &[u8], start: usize) -> usize
 
 // Puts more bytes after the first `length` of a line, as far as there is room, and returns how many it then has. What the buffer holds
 // beyond them is no part of a line, and nothing is promised of it.
-pub fn append(line: &mut [u8; 257], length: usize, more: &[u8]) -> usize
-    ensures { λ r. ⌜ held (now (line .exit)) r ≡ take 257 (held (now (line .entry)) length ++ now (more .entry)) ⌝ }
+pub fn append(line: &mut [u8; KEPT_BYTES], length: usize, more: &[u8]) -> usize
+    ensures { λ r. ⌜ held (now (line .exit)) r ≡ take keptBytes (held (now (line .entry)) length ++ now (more .entry)) ⌝ }
 {
     let buffer: &mut [u8] = line;
-    let mut at = at_most(length, KEPT);
+    let mut at = at_most(length, KEPT_BYTES);
     let mut i: usize = 0;
     while i < more.len() {
-        if KEPT <= at {
+        if KEPT_BYTES <= at {
             return at;
         }
         buffer[at] = more[i];
@@ -45,7 +45,7 @@ pub fn append(line: &mut [u8; 257], length: usize, more: &[u8]) -> usize
 }
 
 // How many bytes of a line are in the buffer.
-pub fn held_length(line: &[u8; 257], length: usize) -> usize
+pub fn held_length(line: &[u8; KEPT_BYTES], length: usize) -> usize
     ensures { λ r. ⌜ r ≡ lib.ListN.length (held (now (line .entry)) length) ⌝ }
 {
     let buffer: &[u8] = line;
@@ -53,10 +53,10 @@ pub fn held_length(line: &[u8; 257], length: usize) -> usize
 }
 
 // What the first line says.
-pub fn parse_first(line: &[u8; 257], length: usize) -> Start
+pub fn parse_first(line: &[u8; KEPT_BYTES], length: usize) -> Start
     ensures { λ r. ⌜ r ≡ lineFirst (held (now (line .entry)) length) ⌝ }
 {
     let buffer: &[u8] = line;
-    let end = at_most(length, KEPT);
+    let end = at_most(length, KEPT_BYTES);
     script::parse_first(&buffer[..end])
 }

@@ -8,7 +8,7 @@ use Rattle.decimal.specs.Read.{digitOf, extended, readDecimal, readFrom}
 use Rattle.decimal.specs.Write.{decimal, digitsBefore, lastByte}
 use Rattle.decimal.specs.declared.Number.the-variants.{Value}
 use Rattle.decimal.proofs.Digits.{last-digit, one-digit}
-use Rattle.decimal.proofs.Reading.{digit-byte, extended-byte, followed, no-number}
+use Rattle.decimal.proofs.DigitReading.{digit-byte, extended-byte, followed, no-number}
 
 -- The bytes that were read after the number n stand after its digits in the text of the number that they made.
 rest-of : (bytes : List ℕ) (n m : ℕ) → n < 2 ^ 64 → readFrom n bytes ≡ Value m

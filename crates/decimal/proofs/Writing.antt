@@ -14,7 +14,7 @@ pub above-tens : (n : ℕ) → 48 + (n - n / 10 * 10) ≡ lastByte n
 above-tens n = omega arith
 
 -- A store in front of a run of stores.
-set-sets : (l : List ℕ) (i j a : ℕ) (vs : List ℕ) → i < j → set (sets l j vs) i a ≡ sets (set l i a) j vs
+pub set-sets : (l : List ℕ) (i j a : ℕ) (vs : List ℕ) → i < j → set (sets l j vs) i a ≡ sets (set l i a) j vs
 set-sets l i j a [] h = refl
 set-sets l i j a (v ∷ vs) h = set-sets (set l j v) i (suc j) a vs (omega arith) ∙ rw (set-comm l j i v a (λ e. omega arith))
 

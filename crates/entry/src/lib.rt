@@ -1,16 +1,23 @@
 // What moves a processor from level to level (01, "Events"): entry, VTL call, VTL return and an interrupt. The record is lent and
-// changed in place.
+// changed in place, and each contract is an equation with the definition of crate `model` that states the rule.
 ghost use mathlib.Core.Path.{_≡_};
 ghost use mathlib.Core.Bool.{cond, _&&_, not};
 ghost use lib.Dec.{ltb, eqb};
-ghost use Rattle.model.specs.Entry.{byCall, enter, highestReady, nextUp, advanced, left, reentered, returned, interrupted};
+ghost use Rattle.model.specs.Entry.{byCall, enter, highestReady, nextUp, advanced, left};
+ghost use Rattle.model.specs.Entry.{waiting, reentered, returned, interrupted};
 ghost use Rattle.model.specs.Registers.{rax, rcx, sharedOf};
 ghost use Rattle.model.specs.State.{activeOf, context, enabledAt};
 ghost use Rattle.model.specs.Updates.{setShared};
 ghost use Rattle.processor.specs.Record.{vpOf};
+use model::machine::BY_CALL;
+use model::machine::BY_INTERRUPT;
 use model::machine::Control;
 use model::machine::Shape;
 use model::quantity::Level;
+use model::quantity::NO_LEVEL;
+use model::register::RAX;
+use model::register::RCX;
+use model::register::RIP;
 use processor::control::control_of;
 use processor::control::set_control;
 use processor::interrupt::enters;
@@ -20,156 +27,178 @@ use processor::record::Record;
 use processor::record::active_of;
 use processor::record::enabled_at;
 use processor::record::set_active;
-use processor::register::private_of;
-use processor::register::set_private;
-use processor::register::set_shared;
-use processor::register::shared_of;
+use processor::record_registers::private_of;
+use processor::record_registers::set_private;
+use processor::record_registers::set_shared;
+use processor::record_registers::shared_of;
 use processor::secure::unlock;
 use std::num::wrapping_add_u64;
 
-// Enters level l: its record gets the reason, the level left, and RAX and RCX as they stand. No other register changes.
-pub fn enter(z: Shape, p: &mut Record, l: u64, reason: u64)
-    ensures { λ _. ⌜ vpOf (now (p .exit)) ≡ enter z (vpOf (now (p .entry))) l reason ⌝ }
+// Enters a level: its record gets the reason, the level left, and RAX and RCX as they stand. No other register changes.
+pub fn enter(shape: Shape, vp: &mut Record, level: Level, reason: u64)
+    ensures { λ _. ⌜ vpOf (now (vp .exit)) ≡ enter shape (vpOf (now (vp .entry))) (level .0) reason ⌝ }
 {
-    let from = Level(active_of(p));
     let control = Control {
         reason,
-        from,
-        rax: shared_of(p, 13),
-        rcx: shared_of(p, 14),
+        from: active_of(vp),
+        rax: shared_of(vp, RAX),
+        rcx: shared_of(vp, RCX),
     };
-    set_control(z, p, l, control);
-    set_active(p, l);
+    set_control(shape, vp, level, control);
+    set_active(vp, level);
 }
 
-// The least of the levels 1 to 3 that is chosen; 4 if none is.
-fn least_of(one: bool, two: bool, three: bool) -> u64
-    ensures { λ r. ⌜ r ≡ cond one 1 (cond two 2 (cond three 3 4)) ⌝ }
+// The least of the levels 1 to 3 that is chosen; NO_LEVEL if none is.
+fn least_of(one: bool, two: bool, three: bool) -> Level
+    ensures { λ r. ⌜ r .0 ≡ cond one 1 (cond two 2 (cond three 3 4)) ⌝ }
 {
     if one {
-        return 1;
+        return Level(1);
     }
     if two {
-        return 2;
+        return Level(2);
     }
-    if three { 3 } else { 4 }
+    if three { Level(3) } else { Level(NO_LEVEL) }
 }
 
 // The highest of the levels 1 to 3 that is chosen; 0 if none is.
-fn highest_of(one: bool, two: bool, three: bool) -> u64
-    ensures { λ r. ⌜ r ≡ cond three 3 (cond two 2 (cond one 1 0)) ⌝ }
+fn highest_of(one: bool, two: bool, three: bool) -> Level
+    ensures { λ r. ⌜ r .0 ≡ cond three 3 (cond two 2 (cond one 1 0)) ⌝ }
 {
     if three {
-        return 3;
+        return Level(3);
     }
     if two {
-        return 2;
+        return Level(2);
     }
-    if one { 1 } else { 0 }
+    if one { Level(1) } else { Level(0) }
 }
 
-// The next enabled level above the active one; 4 if there is none.
-pub fn next_up(z: Shape, p: &Record) -> u64
-    ensures { λ r. ⌜ r ≡ nextUp z (vpOf (now (p .entry))) ⌝ }
+// Is the level above the active one, and enabled?
+fn is_above(shape: Shape, vp: &Record, active: Level, level: Level) -> bool
+    ensures { λ r. ⌜ r ≡ (ltb (active .0) (level .0) && enabledAt shape (vpOf (now (vp .entry))) (level .0)) ⌝ }
 {
-    let a = active_of(p);
+    (active.0 < level.0) & enabled_at(shape, vp, level)
+}
+
+// The next enabled level above the active one; its number is NO_LEVEL if there is none.
+pub fn next_up(shape: Shape, vp: &Record) -> Level
+    ensures { λ r. ⌜ r .0 ≡ nextUp shape (vpOf (now (vp .entry))) ⌝ }
+{
+    let active = active_of(vp);
     least_of(
-        (a < 1) & enabled_at(z, p, 1),
-        (a < 2) & enabled_at(z, p, 2),
-        (a < 3) & enabled_at(z, p, 3),
+        is_above(shape, vp, active, Level(1)),
+        is_above(shape, vp, active, Level(2)),
+        is_above(shape, vp, active, Level(3)),
     )
 }
 
 // Moves the active level's RIP on by the length, modulo 2^64.
-fn advance(z: Shape, p: &mut Record, length: u64)
-    ensures { λ _. ⌜ vpOf (now (p .exit)) ≡ advanced z (vpOf (now (p .entry))) length ⌝ }
+fn advance(shape: Shape, vp: &mut Record, length: u64)
+    ensures { λ _. ⌜ vpOf (now (vp .exit)) ≡ advanced shape (vpOf (now (vp .entry))) length ⌝ }
 {
-    let l = active_of(p);
-    let rip = wrapping_add_u64(private_of(z, p, l, 0), length);
-    set_private(z, p, l, 0, rip);
+    let active = active_of(vp);
+    let rip = wrapping_add_u64(private_of(shape, vp, active, RIP), length);
+    set_private(shape, vp, active, RIP, rip);
 }
 
-// call: the caller's RIP moves on, and level l is entered, reason 1.
-pub fn vtl_call(z: Shape, p: &mut Record, l: u64, length: u64)
-    ensures { λ _. ⌜ vpOf (now (p .exit)) ≡ enter z (advanced z (vpOf (now (p .entry))) length) l byCall ⌝ }
+// call: the caller's RIP moves on, and the level is entered by call.
+pub fn vtl_call(shape: Shape, vp: &mut Record, level: Level, length: u64)
+    ensures { λ _. ⌜ vpOf (now (vp .exit))
+        ≡ enter shape (advanced shape (vpOf (now (vp .entry))) length) (level .0) byCall ⌝ }
 {
-    advance(z, p, length);
-    enter(z, p, l, 1);
+    advance(shape, vp, length);
+    enter(shape, vp, level, BY_CALL);
 }
 
-// ret: the actor's RIP moves on if its reason is 1.
-fn advance_after_call(z: Shape, p: &mut Record, length: u64)
-    ensures { λ _. ⌜ (let q = vpOf (now (p .entry)) in vpOf (now (p .exit)) ≡ cond (eqb (context z q (activeOf q) .control .reason) byCall) (advanced z q length) q) ⌝ }
+// ret: the actor's RIP moves on if it was entered by call.
+fn advance_after_call(shape: Shape, vp: &mut Record, length: u64)
+    ensures { λ _. ⌜ (let q = vpOf (now (vp .entry)) in
+        vpOf (now (vp .exit))
+        ≡ cond (eqb (context shape q (activeOf q) .control .reason) byCall) (advanced shape q length) q) ⌝ }
 {
-    let control = control_of(z, p, active_of(p));
-    if control.reason == 1 {
-        advance(z, p, length);
+    let control = control_of(shape, vp, active_of(vp));
+    if control.reason == BY_CALL {
+        advance(shape, vp, length);
     }
 }
 
 // With RCX 0, restores RAX and RCX from a control record. RCX 1 is the fast return, which keeps both.
-fn restore(p: &mut Record, k: Control)
-    ensures { λ _. ⌜ (let q = vpOf (now (p .entry)) in vpOf (now (p .exit)) ≡ cond (eqb (sharedOf q rcx) 0) (setShared (setShared q rax (k .rax)) rcx (k .rcx)) q) ⌝ }
+fn restore(vp: &mut Record, control: Control)
+    ensures { λ _. ⌜ (let q = vpOf (now (vp .entry)) in
+        vpOf (now (vp .exit))
+        ≡ cond (eqb (sharedOf q rcx) 0) (setShared (setShared q rax (control .rax)) rcx (control .rcx)) q) ⌝ }
 {
-    if shared_of(p, 14) == 0 {
-        set_shared(p, 13, k.rax);
-        set_shared(p, 14, k.rcx);
+    if shared_of(vp, RCX) == 0 {
+        set_shared(vp, RAX, control.rax);
+        set_shared(vp, RCX, control.rcx);
     }
 }
 
 // ret: RAX and RCX are restored, and the level that the active one was entered from becomes active.
-fn leave(z: Shape, p: &mut Record)
-    ensures { λ _. ⌜ vpOf (now (p .exit)) ≡ left z (vpOf (now (p .entry))) ⌝ }
+fn leave(shape: Shape, vp: &mut Record)
+    ensures { λ _. ⌜ vpOf (now (vp .exit)) ≡ left shape (vpOf (now (vp .entry))) ⌝ }
 {
-    let l = active_of(p);
-    let control = control_of(z, p, l);
-    restore(p, control);
-    set_active(p, control.from.0);
+    let active = active_of(vp);
+    let control = control_of(shape, vp, active);
+    restore(vp, control);
+    set_active(vp, control.from);
 }
 
-// Is level l above level a enabled, with a ready vector?
-fn is_waiting(z: Shape, p: &Record, a: u64, l: u64) -> bool
-    ensures { λ r. ⌜ (let q = vpOf (now (p .entry)) in r ≡ (ltb a l && enabledAt z q l && not (eqb (highestReady (context z q l)) 0))) ⌝ }
+// Is the level above the active one, and enabled with a ready vector?
+fn is_waiting(shape: Shape, vp: &Record, active: Level, level: Level) -> bool
+    ensures { λ r. ⌜ (let q = vpOf (now (vp .entry)) in
+        r
+        ≡ (ltb (active .0) (level .0) && enabledAt shape q (level .0)
+        && not (eqb (highestReady (context shape q (level .0))) 0))) ⌝ }
 {
-    if (a < l) & enabled_at(z, p, l) {
-        return highest_ready(z, p, l) != 0;
+    if is_above(shape, vp, active, level) {
+        return highest_ready(shape, vp, level) != 0;
     }
     false
 }
 
-// ret: of the higher levels that are enabled with a ready vector, the highest is entered, reason 2.
-fn reenter(z: Shape, p: &mut Record)
-    ensures { λ _. ⌜ vpOf (now (p .exit)) ≡ reentered z (vpOf (now (p .entry))) ⌝ }
+// The highest level above the active one that is enabled with a ready vector; 0 if there is none.
+fn waiting(shape: Shape, vp: &Record) -> Level
+    ensures { λ r. ⌜ r .0 ≡ waiting shape (vpOf (now (vp .entry))) ⌝ }
 {
-    let a = active_of(p);
-    let one = is_waiting(z, p, a, 1);
-    let two = is_waiting(z, p, a, 2);
-    let three = is_waiting(z, p, a, 3);
-    let l = highest_of(one, two, three);
-    if l != 0 {
-        enter(z, p, l, 2);
+    let active = active_of(vp);
+    let one = is_waiting(shape, vp, active, Level(1));
+    let two = is_waiting(shape, vp, active, Level(2));
+    let three = is_waiting(shape, vp, active, Level(3));
+    highest_of(one, two, three)
+}
+
+// ret: that level is entered by interrupt.
+fn reenter(shape: Shape, vp: &mut Record)
+    ensures { λ _. ⌜ vpOf (now (vp .exit)) ≡ reentered shape (vpOf (now (vp .entry))) ⌝ }
+{
+    let level = waiting(shape, vp);
+    if level.0 != 0 {
+        enter(shape, vp, level, BY_INTERRUPT);
     }
 }
 
 // ret: the actor's RIP moves on if it was called, its TLB locks are cleared, RAX and RCX are restored, the level that it was
 // entered from becomes active, and then a higher level with a ready vector is entered.
-pub fn vtl_return(z: Shape, p: &mut Record, length: u64)
-    ensures { λ _. ⌜ vpOf (now (p .exit)) ≡ returned z (vpOf (now (p .entry))) length ⌝ }
+pub fn vtl_return(shape: Shape, vp: &mut Record, length: u64)
+    ensures { λ _. ⌜ vpOf (now (vp .exit)) ≡ returned shape (vpOf (now (vp .entry))) length ⌝ }
 {
-    let l = active_of(p);
-    advance_after_call(z, p, length);
-    unlock(z, p, l);
-    leave(z, p);
-    reenter(z, p);
+    let actor = active_of(vp);
+    advance_after_call(shape, vp, length);
+    unlock(shape, vp, actor);
+    leave(shape, vp);
+    reenter(shape, vp);
 }
 
-// int: vector n of level g becomes pending; g is entered, reason 2, if it is above the active level and the vector is ready.
-pub fn interrupt(z: Shape, p: &mut Record, g: u64, n: u64)
-    ensures { λ _. ⌜ vpOf (now (p .exit)) ≡ interrupted z (vpOf (now (p .entry))) g n ⌝ }
+// int: a vector of the target becomes pending; the target is entered by interrupt if it is above the active level and the vector
+// is ready.
+pub fn interrupt(shape: Shape, vp: &mut Record, target: Level, vector: u64)
+    ensures { λ _. ⌜ vpOf (now (vp .exit)) ≡ interrupted shape (vpOf (now (vp .entry))) (target .0) vector ⌝ }
 {
-    let entering = enters(z, p, g, n);
-    set_pending(z, p, g, n, 1);
+    let entering = enters(shape, vp, target, vector);
+    set_pending(shape, vp, target, vector, 1);
     if entering {
-        enter(z, p, g, 2);
+        enter(shape, vp, target, BY_INTERRUPT);
     }
 }

@@ -1,144 +1,184 @@
-// The events that move a processor from level to level or start a level on it (01, "Events": call, ret, envp, int). Each is given the
-// scope and the record, which is lent, tests the conditions of its rule one after the other and leaves with the first that holds; only then
-// the record changes.
+// The events that move a processor from level to level, start a level on it, or take a vector: call, ret, envp, int, ack (01, "Events").
+// Each is given the processor's record, tests the conditions of its rule one after the other and leaves with the first that holds;
+// only then the record changes.
 ghost use mathlib.Core.Path.{_≡_};
-ghost use Rattle.processor.specs.Record.{vpOf};
-ghost use Rattle.model.specs.declared.event.Event.the-variants.{Made, Int};
-ghost use Rattle.model.specs.declared.event.Action.the-variants.{Envp, Call, Ret};
-ghost use Rattle.model.specs.declared.quantity.Processor.{Processor as Maker};
+ghost use mathlib.Core.List.{List};
+ghost use Prim.Native.Nat.{ℕ};
+ghost use Rattle.model.specs.declared.event.Action.the-variants.{Envp, Call, Ret, Ack};
+ghost use Rattle.model.specs.declared.event.Event.the-variants.{Int};
+ghost use Rattle.model.specs.declared.quantity.Processor.{Processor};
+ghost use Rattle.model.specs.State.{State};
+ghost use Rattle.model.specs.Step.{ruled, acted};
 ghost use Rattle.model.specs.Updates.{putVp};
-ghost use Rattle.events.specs.Ruled.{Has, Gives, Changes};
+ghost use Rattle.partition.specs.PartitionView.{partitionOf};
+ghost use Rattle.processor.specs.Record.{vpOf};
+ghost use Rattle.promise.specs.Promise.{result, Runs, Acts};
 use entry::interrupt;
 use entry::next_up;
 use entry::vtl_call;
 use entry::vtl_return;
-use events::answers::one_if;
-use events::scope::Scope;
 use model::answer::Answer;
 use model::answer::Refusal;
+use model::machine::Shape;
+use model::quantity::FIRST_VECTOR;
+use model::quantity::HIGHEST_LEVEL;
+use model::quantity::LAST_VECTOR;
+use model::quantity::LONGEST_INSTRUCTION;
 use model::quantity::Level;
-use model::quantity::Processor;
-use model::set::in_set;
+use model::quantity::Mode;
+use model::quantity::NO_LEVEL;
+use model::quantity::is_user;
+use model::register::CR0;
+use model::register::INTERRUPT_BIT;
+use model::register::PROTECTED_BIT;
+use model::register::RCX;
+use model::register::RFLAGS;
+use partition::level::Levels;
+use partition::level::enabled_for;
+use processor::control::InitialContext;
 use processor::control::start;
 use processor::interrupt::enters;
+use processor::interrupt::highest_ready;
+use processor::interrupt::set_pending;
 use processor::record::Record;
 use processor::record::active_of;
 use processor::record::enabled_at;
-use processor::register::private_of;
-use processor::register::shared_of;
+use processor::record_registers::private_of;
+use processor::record_registers::shared_of;
 use word::field::has_bit;
+use word::field::one_if;
 
 // call: the next enabled level up is entered. The value is that level.
-pub fn call(c: Scope, p: &mut Record, mode: u64, length: u64) -> Answer
-    ensures { λ r. ⌜ Changes c (vpOf (now (p .entry))) mode (Call length) r (vpOf (now (p .exit))) ⌝ }
+pub fn call(shape: Shape, vp: &mut Record, mode: Mode, length: u64) -> Answer
+    ensures { λ r. ⌜ ((s : State) (v : ℕ) → Runs shape (vpOf (now (vp .entry))) s v
+        → acted s v mode (Call length) ≡ result r (putVp s v (vpOf (now (vp .exit))))) ⌝ }
 {
-    if length == 0 {
+    if (length == 0) | (LONGEST_INSTRUCTION < length) {
         return Answer::Refused(Refusal::LengthOutOfRange);
     }
-    if 15 < length {
-        return Answer::Refused(Refusal::LengthOutOfRange);
-    }
-    if mode == 1 {
+    if is_user(mode) {
         return Answer::Refused(Refusal::UserMode);
     }
-    if !has_bit(private_of(c.shape, p, c.actor, 3), 0) {
-        return Answer::Refused(Refusal::RealMode);
+    let actor = active_of(vp);
+    if !has_bit(private_of(shape, vp, actor, CR0), PROTECTED_BIT) {
+        return Answer::Refused(Refusal::CallInRealMode);
     }
-    if !(shared_of(p, 14) == 0) {
+    if !(shared_of(vp, RCX) == 0) {
         return Answer::Refused(Refusal::RcxNotZero);
     }
-    let next = next_up(c.shape, p);
-    if next == 4 {
+    let next = next_up(shape, vp);
+    if next.0 == NO_LEVEL {
         return Answer::Refused(Refusal::NoHigherLevel);
     }
-    vtl_call(c.shape, p, next, length);
-    Answer::Done(next)
+    vtl_call(shape, vp, next, length);
+    Answer::Done(next.0)
 }
 
 // ret: back to the level that the rules say. The value is the level now active.
-pub fn ret(c: Scope, p: &mut Record, mode: u64, length: u64) -> Answer
-    ensures { λ r. ⌜ Changes c (vpOf (now (p .entry))) mode (Ret length) r (vpOf (now (p .exit))) ⌝ }
+pub fn ret(shape: Shape, vp: &mut Record, mode: Mode, length: u64) -> Answer
+    ensures { λ r. ⌜ ((s : State) (v : ℕ) → Runs shape (vpOf (now (vp .entry))) s v
+        → acted s v mode (Ret length) ≡ result r (putVp s v (vpOf (now (vp .exit))))) ⌝ }
 {
-    if length == 0 {
+    if (length == 0) | (LONGEST_INSTRUCTION < length) {
         return Answer::Refused(Refusal::LengthOutOfRange);
     }
-    if 15 < length {
-        return Answer::Refused(Refusal::LengthOutOfRange);
-    }
-    if mode == 1 {
+    if is_user(mode) {
         return Answer::Refused(Refusal::UserMode);
     }
-    if c.actor == 0 {
-        return Answer::Refused(Refusal::AtLevelZero);
+    let actor = active_of(vp);
+    if actor.0 == 0 {
+        return Answer::Refused(Refusal::ReturnAtLevelZero);
     }
-    if 1 < shared_of(p, 14) {
+    if 1 < shared_of(vp, RCX) {
         return Answer::Refused(Refusal::RcxAboveOne);
     }
-    vtl_return(c.shape, p, length);
-    Answer::Done(active_of(p))
+    vtl_return(shape, vp, length);
+    let active = active_of(vp);
+    Answer::Done(active.0)
 }
 
-// envp, of the record p of processor w, which is there: level t starts on w with RIP, RSP and CR0 as given.
+// envp, given the record of processor w: the target starts on w with RIP, RSP and CR0 as given.
 pub fn envp(
-    c: Scope,
-    p: &mut Record,
-    mode: u64,
-    w: Processor,
-    t: Level,
-    ip: u64,
-    sp: u64,
-    cr: u64,
+    shape: Shape,
+    levels: &Levels,
+    vp: &mut Record,
+    actor: Level,
+    mode: Mode,
+    target: Level,
+    initial: InitialContext,
 ) -> Answer
-    ensures { λ r. ⌜ ((v : Maker) → Gives (Has c v mode w (vpOf (now (p .entry)))) (Made v mode (Envp w t ip sp cr)) r (λ s. putVp s (w .0) (vpOf (now (p .exit))))) ⌝ }
+    ensures { λ r. ⌜ ((s : State) (v pages : ℕ) (w : Processor) (masks : List ℕ)
+        → Acts shape pages (partitionOf (now (levels .entry)) masks) (actor .0) s v
+        → Runs shape (vpOf (now (vp .entry))) s (w .0)
+        → acted s v mode (Envp w target (initial .rip) (initial .rsp) (initial .cr0))
+        ≡ result r (putVp s (w .0) (vpOf (now (vp .exit))))) ⌝ }
 {
-    if 15 < t.0 {
+    if HIGHEST_LEVEL < target.0 {
         return Answer::Refused(Refusal::LevelOutOfRange);
     }
-    if !has_bit(cr, 0) {
-        return Answer::Refused(Refusal::RealModeGiven);
+    if !has_bit(initial.cr0, PROTECTED_BIT) {
+        return Answer::Refused(Refusal::Cr0InRealMode);
     }
-    if mode == 1 {
+    if is_user(mode) {
         return Answer::Refused(Refusal::UserMode);
     }
-    if t.0 == 0 {
+    if target.0 == 0 {
         return Answer::Refused(Refusal::LevelZero);
     }
-    if c.shape.max_level.0 < t.0 {
+    if shape.max_level.0 < target.0 {
         return Answer::Refused(Refusal::AboveMaximum);
     }
-    if t.0 <= c.actor {
+    if target.0 <= actor.0 {
         return Answer::Refused(Refusal::TargetNotAbove);
     }
-    if enabled_at(c.shape, p, t.0) {
+    if enabled_at(shape, vp, target) {
         return Answer::Refused(Refusal::EnabledOnProcessor);
     }
-    if !in_set(c.enabled, t.0) {
-        return Answer::Refused(Refusal::NotForPartition);
+    if !enabled_for(shape, levels, target) {
+        return Answer::Refused(Refusal::NotEnabledForPartition);
     }
-    start(c.shape, p, t.0, ip, sp, cr);
+    start(shape, vp, target, initial);
     Answer::Done(0)
 }
 
-// int, of the record p of processor w, which is there: the vector is made pending, and g is entered or not. The value is 1 if it is, else 0.
-pub fn int(c: Scope, p: &mut Record, w: Processor, g: Level, vector: u64) -> Answer
-    ensures { λ r. ⌜ Gives (Has c w 0 w (vpOf (now (p .entry)))) (Int w g vector) r (λ s. putVp s (w .0) (vpOf (now (p .exit)))) ⌝ }
+// int, given the record of processor w: the vector is made pending, and the target is entered or not. The value is 1 if it is, else 0.
+pub fn int(shape: Shape, vp: &mut Record, target: Level, vector: u64) -> Answer
+    ensures { λ r. ⌜ ((s : State) (w : Processor) → Runs shape (vpOf (now (vp .entry))) s (w .0)
+        → ruled s (Int w target vector) ≡ result r (putVp s (w .0) (vpOf (now (vp .exit))))) ⌝ }
 {
-    if 15 < g.0 {
+    if HIGHEST_LEVEL < target.0 {
         return Answer::Refused(Refusal::LevelOutOfRange);
     }
-    if vector < 16 {
+    if (vector < FIRST_VECTOR) | (LAST_VECTOR < vector) {
         return Answer::Refused(Refusal::VectorOutOfRange);
     }
-    if 255 < vector {
-        return Answer::Refused(Refusal::VectorOutOfRange);
-    }
-    if c.shape.max_level.0 < g.0 {
+    if shape.max_level.0 < target.0 {
         return Answer::Refused(Refusal::AboveMaximum);
     }
-    if !enabled_at(c.shape, p, g.0) {
-        return Answer::Refused(Refusal::NotOnProcessor);
+    if !enabled_at(shape, vp, target) {
+        return Answer::Refused(Refusal::NotEnabledOnProcessor);
     }
-    let entered = one_if(enters(c.shape, p, g.0, vector));
-    interrupt(c.shape, p, g.0, vector);
+    let entered = one_if(enters(shape, vp, target, vector));
+    interrupt(shape, vp, target, vector);
     Answer::Done(entered)
+}
+
+// ack: the actor takes its highest ready vector, which is pending no more. The value is the vector.
+pub fn ack(shape: Shape, vp: &mut Record, mode: Mode) -> Answer
+    ensures { λ r. ⌜ ((s : State) (v : ℕ) → Runs shape (vpOf (now (vp .entry))) s v
+        → acted s v mode Ack ≡ result r (putVp s v (vpOf (now (vp .exit))))) ⌝ }
+{
+    if is_user(mode) {
+        return Answer::Refused(Refusal::UserMode);
+    }
+    let actor = active_of(vp);
+    let vector = highest_ready(shape, vp, actor);
+    if vector == 0 {
+        return Answer::Refused(Refusal::NoReadyVector);
+    }
+    if !has_bit(private_of(shape, vp, actor, RFLAGS), INTERRUPT_BIT) {
+        return Answer::Refused(Refusal::InterruptFlagClear);
+    }
+    set_pending(shape, vp, actor, vector, 0);
+    Answer::Done(vector)
 }

@@ -6,22 +6,22 @@ use Rattle.model.specs.Answers.{firstOf}
 use Rattle.model.specs.Arrays.{numberAt, stored}
 use Rattle.model.specs.Bounded.{every, any, least, highest, bits, allOf}
 use Rattle.model.specs.Entry.{enter, isReady, highestReady, nextUp, advanced, called, restored, waiting, reentered, left, returned, enters, interrupted, started, acknowledged}
-use Rattle.model.specs.Events.{onVp, onLevel, own, configured, locked}
-use Rattle.model.specs.Masks.{protects}
-use Rattle.model.specs.Memory.{needed, mbecOn, denies, denied, receiver, hostDenies}
+use Rattle.model.specs.Events.{own, configured, locked}
+use Rattle.model.specs.Masks.{protectsIn, protects}
+use Rattle.model.specs.Memory.{isUser, needed, mbecOn, deniesIn, denies, denied, receiver, hostDeniesBy, hostDenies}
 use Rattle.model.specs.Registers.{isPrivate, privateOf, sharedOf, registerOf}
-use Rattle.model.specs.State.{processors, shape, top, maxLevel, pages, isLevel, isProcessor, isPage, vp, context, partitionLevel, activeOf, active, enabledAt, enabledOn, enabledFor, mbecFor, configOf, maskOf, hostMask, wordOf, secureOf, isPending}
+use Rattle.model.specs.State.{inRange, processors, shape, top, maxLevel, pages, isLevel, isProcessor, isPage, vp, context, partition, inSet, activeOf, active, enabledAt, enabledOn, enabledFor, mbecFor, configIn, configOf, maskIn, maskOf, hostMask, wordOf, secureOf, isPending}
 use Rattle.model.specs.Step.{rule, ruleOf, maker, intercepted, nextFor, ruled, step, answers, final}
-use Rattle.model.specs.Updates.{putMasks, setMask, filled, fillMasks, putContext, setShared, setPrivate, setRegister, setTpr, setPending, setSecure, cleared, unlocked, putVp, putLevel, setWord}
-use Rattle.model.specs.WellFormed.{wellSized, wellEntered, wellFormedContext, wellFormedVp, wellFormedLevel, wellFormedParts, wellModed, wellFormed}
+use Rattle.model.specs.Updates.{withLevel, enableLevel, setConfig, setMask, filled, fillMasks, putContext, setShared, setPrivate, setRegister, setTpr, setPending, setSecure, cleared, unlocked, putVp, putPartition, setWord, onVp, onPartition}
+use Rattle.model.specs.WellFormed.{wellSized, wellEntered, wellFormedContext, wellFormedVp, wellFormedLevel, wellFormedParts, wellModedVp, wellModed, wellFormed}
 use Rattle.isolation.specs.Example.{one, two, events, Instance}
-use Rattle.model.specs.Hide.{closed, hides, hideContext, hideLevel, hideVp, hidePartition, isMask, hideMachine, hide, quietMaker}
+use Rattle.model.specs.Hide.{closed, hides, hideSet, hideContext, hideLevel, hideVp, hidePartition, isMask, hideMachine, hide, quietMaker}
 use Rattle.isolation.specs.Isolation.{Isolated, quiet}
 use Rattle.model.specs.MapAt.{mapAt}
 use Rattle.isolation.proofs.Runs.{isolation}
 
 pub instance : Instance
-unfolding every any least highest bits allOf numberAt stored firstOf enter isReady highestReady nextUp advanced called restored waiting reentered left returned enters interrupted started acknowledged onVp onLevel own locked protects configured needed mbecOn denies denied receiver hostDenies isPrivate privateOf sharedOf registerOf processors shape top maxLevel pages isLevel isProcessor isPage vp context partitionLevel activeOf active enabledAt enabledOn enabledFor mbecFor configOf maskOf hostMask wordOf secureOf isPending rule ruleOf maker intercepted nextFor ruled step answers final putMasks setMask filled fillMasks putContext setShared setPrivate setRegister setTpr setPending setSecure cleared unlocked putVp putLevel setWord wellSized wellEntered wellFormedContext wellFormedVp wellFormedLevel wellFormedParts wellModed wellFormed mapAt closed hides hideContext hideLevel hideVp hidePartition isMask hideMachine hide quietMaker quiet
+unfolding every any least highest bits allOf numberAt stored firstOf enter isReady highestReady nextUp advanced called restored waiting reentered left returned enters interrupted started acknowledged onVp own locked protectsIn protects configured isUser needed mbecOn deniesIn denies denied receiver hostDeniesBy hostDenies isPrivate privateOf sharedOf registerOf processors shape top maxLevel pages isLevel isProcessor isPage vp context partition inSet activeOf active enabledAt enabledOn enabledFor mbecFor configIn configOf maskIn maskOf hostMask wordOf secureOf isPending rule ruleOf maker intercepted nextFor ruled step answers final withLevel enableLevel setConfig setMask filled fillMasks putContext setShared setPrivate setRegister setTpr setPending setSecure cleared unlocked putVp putPartition onPartition setWord wellSized wellEntered wellFormedContext wellFormedVp wellFormedLevel wellFormedParts wellModedVp wellModed wellFormed inRange mapAt closed hides hideSet hideContext hideLevel hideVp hidePartition isMask hideMachine hide quietMaker quiet
 instance =
     let i : Isolated 1 one two events = isolation 1 one two events (omega arith) refl refl refl refl in
     record {

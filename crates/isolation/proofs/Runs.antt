@@ -11,17 +11,19 @@ use Rattle.model.specs.declared.event.Event.{Event}
 use Rattle.model.specs.declared.machine.Context.{Context}
 use Rattle.model.specs.declared.machine.Shape.{Shape}
 use Rattle.model.specs.declared.machine.VirtualProcessor.{VirtualProcessor}
+use Rattle.model.specs.declared.set.LevelSet.{LevelSet}
 use Rattle.model.specs.Arrays.{numberAt}
 use Rattle.model.specs.Registers.{cr0, isPrivate, privateOf}
-use Rattle.model.specs.State.{State, noControl, noContext, pastContext, noVp, pastVp, noLevel, processors, pages, shape, isLevel, isProcessor, isPage, vp, context, enabledAt, enabledOn}
+use Rattle.model.specs.State.{State, noControl, noContext, noVp, pastVp, processors, pages, shape, inSet, isLevel, isProcessor, isPage, vp, enabledAt, enabledOn}
 use Rattle.model.specs.Step.{maker, step, answers, final}
 use Rattle.model.specs.WellFormed.{wellModed}
 use Rattle.model.proofs.Bools.{and-left, and-right, cond-then, cond-else}
-use Rattle.model.specs.Hide.{closed, hides, hideContext, hideLevel, hideVp, hidePartition, isMask, hideMachine, hide, quietMaker}
+use Rattle.model.specs.Hide.{closed, hides, hideSet, hideContext, hideLevel, hideVp, hidePartition, isMask, hideMachine, hide, quietMaker}
 use Rattle.isolation.specs.Isolation.{quiet, everywhere, Kept, Isolation, RunKeeps}
 use Rattle.model.proofs.Formed.{well-moded}
 use Rattle.model.proofs.Keeps.{step-keeps}
-use Rattle.model.proofs.Maps.{mapAt-ext, mapAt-absorb}
+use Rattle.model.proofs.LevelSets.{in-hidden, hidden-twice}
+use Rattle.model.proofs.Maps.{mapAt-ext, mapAt-same, mapAt-absorb, mapAt-again}
 use Rattle.model.proofs.Moves.{Moved, same-moved, then-moved, closed-kept, step-moved, modes-kept}
 use Rattle.model.proofs.Steps.{Reached, step-hide}
 use Rattle.model.proofs.Visible.{private-seen}
@@ -30,7 +32,6 @@ use Rattle.model.proofs.Whole.{processors-same, shape-same, vp-hide, active-hid
 -- One run beside the run of its hidden state. It starts at o, where E and H are taken.
 module _ (K : ℕ) (k : 1 ≤ K) (E : ℕ → ℕ → Bool) (H : ℕ → Bool) (o : State) (E-is : (v l : ℕ) → E v l ≡ enabledOn o v l) (H-is : (p : ℕ) → H p ≡ closed K o p) where
   reached : (s : State) → Moved K o s → wellModed s ≡ true → Reached K E H s
-  unfolding enabledOn enabledAt
   reached s m w = record {
     modes = w;
     grown = λ v l h. m .contexts v l .grows (sym (E-is v l) ∙ h);
@@ -70,12 +71,9 @@ module _ (K : ℕ) (k : 1 ≤ K) (E : ℕ → ℕ → Bool) (H : ℕ → Bool) (
       record { same = rw (st, r .same); end = rw (st, r .end); moved = r .moved }
 
 -- Enabled, as it stands in the arrays.
-on-at : (s : State) (v l : ℕ) → isProcessor s v ≡ true → isLevel (shape s) l ≡ true → enabledOn s v l ≡ getD (getD (s .machine .vps) v pastVp .contexts) l pastContext .enabled
-unfolding enabledOn enabledAt vp context
-on-at s v l b c = ap (λ x. x .enabled) (go (isProcessor s v) b (isLevel (shape s) l) c)
-  where
-    go : (x : Bool) → x ≡ true → (y : Bool) → y ≡ true → cond y (getD (cond x (getD (s .machine .vps) v pastVp) noVp .contexts) l pastContext) noContext ≡ getD (getD (s .machine .vps) v pastVp .contexts) l pastContext
-    go x p y q = rw (p, q)
+on-at : (s : State) (v l : ℕ) → isProcessor s v ≡ true → enabledOn s v l ≡ inSet (shape s) (getD (s .machine .vps) v pastVp .enabled) l
+unfolding enabledOn enabledAt vp
+on-at s v l b = rw b
 
 -- Either branch absorbs.
 branch : {A : Type 0} (b : Bool) (f g : A → A) (x d : A) → f (g x) ≡ f x → cond b (f (cond b (g x) d)) d ≡ cond b (f x) d
@@ -95,13 +93,14 @@ module _ (K : ℕ) where
   hide-start E H s e =
       rw (mapAt-ext (λ v p. cond (isProcessor s v) (hideVp K (E v) (shape s) p) noVp) (λ v p. cond (isProcessor s v) (hideVp K (everywhere v) (shape s) p) noVp) (s .machine .vps) pastVp (λ v i. processor v (isProcessor s v) refl))
     where
-      level : (v : ℕ) (l : ℕ) (b : Bool) → isProcessor s v ≡ true → isLevel (shape s) l ≡ b → cond b (hideContext (shape s) (hides K (E v l) l (getD (getD (s .machine .vps) v pastVp .contexts) l pastContext .enabled)) l (getD (getD (s .machine .vps) v pastVp .contexts) l pastContext)) noContext
-          ≡ cond b (hideContext (shape s) (hides K true l (getD (getD (s .machine .vps) v pastVp .contexts) l pastContext .enabled)) l (getD (getD (s .machine .vps) v pastVp .contexts) l pastContext)) noContext
-      level v l true i j = rw (e v l ∙ on-at s v l i j, hides-start l)
-      level v l false i j = refl
+      at : ℕ → VirtualProcessor
+      at v = getD (s .machine .vps) v pastVp
 
-      processor : (v : ℕ) (b : Bool) → isProcessor s v ≡ b → cond b (hideVp K (E v) (shape s) (getD (s .machine .vps) v pastVp)) noVp ≡ cond b (hideVp K (everywhere v) (shape s) (getD (s .machine .vps) v pastVp)) noVp
-      processor v true b = rw (mapAt-ext (hideLevel K (E v) (shape s)) (hideLevel K (everywhere v) (shape s)) (getD (s .machine .vps) v pastVp .contexts) pastContext (λ l i. level v l (isLevel (shape s) l) b refl))
+      level : (v l : ℕ) (c : Context) → isProcessor s v ≡ true → hideLevel K (E v) (shape s) (at v .enabled) l c ≡ hideLevel K (everywhere v) (shape s) (at v .enabled) l c
+      level v l c i = rw (e v l ∙ on-at s v l i, hides-start l)
+
+      processor : (v : ℕ) (b : Bool) → isProcessor s v ≡ b → cond b (hideVp K (E v) (shape s) (at v)) noVp ≡ cond b (hideVp K (everywhere v) (shape s) (at v)) noVp
+      processor v true b = rw (mapAt-same (hideLevel K (E v) (shape s) (at v .enabled)) (hideLevel K (everywhere v) (shape s) (at v .enabled)) (at v .contexts) (λ l c. level v l c b))
       processor v false b = refl
 
   -- Hiding more after hiding less.
@@ -113,32 +112,28 @@ module _ (K : ℕ) where
       go true = refl
       go false = refl
 
-  context-again : (z : Shape) (was : Bool) (l : ℕ) (c : Context) → hideContext z (hides K true l (c .enabled)) l (hideContext z (hides K was l (c .enabled)) l c) ≡ hideContext z (hides K true l (c .enabled)) l c
+  context-again : (z : Shape) (was on : Bool) (l : ℕ) (c : Context) → hideContext z (hides K true l on) on l (hideContext z (hides K was l on) on l c) ≡ hideContext z (hides K true l on) on l c
   unfolding hideContext
-  context-again z was l c = λ i. record {
-    registers = mapAt-absorb (λ r x. cond (isPrivate z r) (cond (hides K true l (c .enabled)) (cond (eqb r cr0 && c .enabled) 1 0) x) 0) (λ r x. cond (isPrivate z r) (cond (hides K was l (c .enabled)) (cond (eqb r cr0 && c .enabled) 1 0) x) 0) (c .registers)
-        (λ r x. branch (isPrivate z r) (λ y. cond (hides K true l (c .enabled)) (cond (eqb r cr0 && c .enabled) 1 0) y) (λ y. cond (hides K was l (c .enabled)) (cond (eqb r cr0 && c .enabled) 1 0) y) x 0 (less l was (c .enabled) (cond (eqb r cr0 && c .enabled) 1 0) x)) i;
+  context-again z was on l c = λ i. record {
+    registers = mapAt-absorb (λ r x. cond (isPrivate z r) (cond (hides K true l on) (cond (eqb r cr0 && on) 1 0) x) 0) (λ r x. cond (isPrivate z r) (cond (hides K was l on) (cond (eqb r cr0 && on) 1 0) x) 0) (c .registers)
+        (λ r x. branch (isPrivate z r) (λ y. cond (hides K true l on) (cond (eqb r cr0 && on) 1 0) y) (λ y. cond (hides K was l on) (cond (eqb r cr0 && on) 1 0) y) x 0 (less l was on (cond (eqb r cr0 && on) 1 0) x)) i;
     tpr = c .tpr;
     pending = c .pending;
-    enabled = c .enabled;
     secure = mapAt-absorb (λ j w. cond (ltb j l) w 0) (λ j w. cond (ltb j l) w 0) (c .secure) (λ j w. cond-then (ltb j l) w 0) i;
     control = cond-else (eqb l 0) noControl (c .control) i;
   }
 
-  level-again : (E : ℕ → Bool) (z : Shape) (l : ℕ) (c : Context) → hideLevel K (λ l. true) z l (hideLevel K E z l c) ≡ hideLevel K (λ l. true) z l c
-  unfolding hideLevel hideContext
-  level-again E z l c = go (isLevel z l)
-    where
-      go : (b : Bool) → cond b (hideContext z (hides K true l (cond b (hideContext z (hides K (E l) l (c .enabled)) l c) noContext .enabled)) l (cond b (hideContext z (hides K (E l) l (c .enabled)) l c) noContext)) noContext ≡ cond b (hideContext z (hides K true l (c .enabled)) l c) noContext
-      go true = context-again z (E l) l c
-      go false = refl
+  level-again : (E : ℕ → Bool) (z : Shape) (x : LevelSet) (l : ℕ) (c : Context) → hideLevel K (λ l. true) z (hideSet z x) l (hideLevel K E z x l c) ≡ hideLevel K (λ l. true) z x l c
+  unfolding hideLevel
+  level-again E z x l c = rw (in-hidden z x l) (branch (isLevel z l) (hideContext z (hides K true l (inSet z x l)) (inSet z x l) l) (hideContext z (hides K (E l) l (inSet z x l)) (inSet z x l) l) c noContext (context-again z (E l) (inSet z x l) l c))
 
   vp-again : (E : ℕ → Bool) (z : Shape) (p : VirtualProcessor) → hideVp K (λ l. true) z (hideVp K E z p) ≡ hideVp K (λ l. true) z p
   unfolding hideVp
   vp-again E z p = λ i. record {
     active = p .active;
+    enabled = hidden-twice z (p .enabled) i;
     shared = mapAt-absorb (λ i x. cond (eqb i 0 && not (z .«dr6_shared»)) 0 x) (λ i x. cond (eqb i 0 && not (z .«dr6_shared»)) 0 x) (p .shared) (λ i x. cond-else (eqb i 0 && not (z .«dr6_shared»)) 0 x) i;
-    contexts = mapAt-absorb (hideLevel K (λ l. true) z) (hideLevel K E z) (p .contexts) (level-again E z) i;
+    contexts = mapAt-again (hideLevel K (λ l. true) z (hideSet z (p .enabled))) (hideLevel K E z (p .enabled)) (hideLevel K (λ l. true) z (p .enabled)) (p .contexts) (level-again E z (p .enabled)) i;
   }
 
   hide-again : (E : ℕ → ℕ → Bool) (H : ℕ → Bool) (s : State) → hide K everywhere H (hide K E H s) ≡ hide K everywhere H s
@@ -149,9 +144,12 @@ module _ (K : ℕ) where
       pages = s .machine .pages;
       «host_mask» = s .machine .«host_mask»;
       shape = s .machine .shape;
-      levels = mapAt-absorb (λ l x. cond (isLevel (shape s) l) (hidePartition l x) noLevel) (λ l x. cond (isLevel (shape s) l) (hidePartition l x) noLevel) (s .machine .levels)
-          (λ l x. branch (isLevel (shape s) l) (hidePartition l) (hidePartition l) x noLevel (rw (cond-else (eqb l 0) 0 (x .config)))) i;
-      masks = mapAt-absorb (λ j k. cond (isMask s j) k 0) (λ j k. cond (isMask s j) k 0) (s .machine .masks) (λ j k. cond-then (isMask s j) k 0) i;
+      partition = record {
+        enabled = hidden-twice (shape s) (s .machine .partition .enabled) i;
+        mbec = hidden-twice (shape s) (s .machine .partition .mbec) i;
+        configs = mapAt-absorb (λ l w. cond (ltb 0 l && isLevel (shape s) l) w 0) (λ l w. cond (ltb 0 l && isLevel (shape s) l) w 0) (s .machine .partition .configs) (λ l w. cond-then (ltb 0 l && isLevel (shape s) l) w 0) i;
+        masks = mapAt-absorb (λ j k. cond (isMask s j) k 0) (λ j k. cond (isMask s j) k 0) (s .machine .partition .masks) (λ j k. cond-then (isMask s j) k 0) i;
+      };
       vps = mapAt-absorb (λ v p. cond (isProcessor s v) (hideVp K (λ l. true) (shape s) p) noVp) (λ v p. cond (isProcessor s v) (hideVp K (E v) (shape s) p) noVp) (s .machine .vps)
           (λ v p. branch (isProcessor s v) (hideVp K (λ l. true) (shape s)) (hideVp K (E v) (shape s)) p noVp (vp-again (E v) (shape s) p)) i;
     };
@@ -161,11 +159,11 @@ module _ (K : ℕ) where
 -- A register of a level that was not enabled and is: it is not hidden.
 seen : (K : ℕ) (E : ℕ → ℕ → Bool) (H : ℕ → Bool) (s : State) (v l r : ℕ) → isPrivate (shape s) r ≡ true → E v l ≡ false → enabledOn s v l ≡ true →
     privateOf (shape (hide K E H s)) (vp (hide K E H s) v) l r ≡ privateOf (shape s) (vp s v) l r
-unfolding enabledOn enabledAt hides
+unfolding enabledOn hides
 seen K E H s v l r q n o = rw (shape-same, vp-hide) (private-seen K (E v) (shape s) (vp s v) l r (simp (n, o, and-false)) q)
 
 kept : (K : ℕ) (s a : State) → Moved K s a → Kept K s a
-unfolding privateOf enabledOn enabledAt
+unfolding privateOf
 kept K s a m = record { registers = λ v l r q h. ap (λ rs. numberAt 13 rs r) (m .contexts v l .registers h); pages = m .words }
 
 -- What holds along every run.

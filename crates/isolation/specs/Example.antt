@@ -1,29 +1,25 @@
 -- An instance of demand 3, with K = 1: two states that differ in RIP of level 1, which is enabled, in RSP of level 2, which is
 -- not, and in the word of page 1, which level 1 has closed; and a list of events. Assumes nothing.
 use mathlib.Core.Path.{_≡_}
-use mathlib.Core.Bool.{Bool, true, false}
+use mathlib.Core.Bool.{false}
 use mathlib.Core.List.{List, [], _∷_}
 use Prim.Native.Nat.{ℕ}
 use lib.ListN.{replicate}
 use Rattle.model.specs.declared.answer.Answer.the-variants.{Done, Refused, Intercept}
-use Rattle.model.specs.declared.answer.Refusal.the-variants.{NoSuchProcessor, RcxNotZero, TargetAbove}
+use Rattle.model.specs.declared.answer.Refusal.{Refusal}
 use Rattle.model.specs.declared.event.Event.{Event}
 use Rattle.model.specs.declared.event.Action.the-variants.{Envp, Call, Read, Flush, Rreg, Wreg}
 use Rattle.model.specs.declared.event.Event.the-variants.{Made, Int}
 use Rattle.model.specs.declared.machine.Context.{Context}
-use Rattle.model.specs.declared.machine.PartitionLevel.{PartitionLevel}
 use Rattle.model.specs.declared.quantity.Page.{Page}
 use Rattle.model.specs.declared.quantity.Processor.{Processor}
 use Rattle.model.specs.Registers.{privateOf}
-use Rattle.model.specs.State.{State, level, shape, vp, wordOf, noControl}
+use Rattle.model.specs.State.{State, level, levelSet, shape, vp, wordOf, noControl}
 use Rattle.model.specs.Step.{answers, final}
 use Rattle.isolation.specs.Isolation.{Isolated}
 
-abbrev pub contextOf : Bool → ℕ → ℕ → Context
-contextOf on rip rsp = record { registers = rip ∷ rsp ∷ 0 ∷ 1 ∷ replicate 9 0; tpr = 0; pending = replicate 4 0; enabled = on; secure = replicate 4 0; control = noControl }
-
-abbrev pub partOf : Bool → ℕ → PartitionLevel
-partOf on config = record { enabled = on; mbec = false; config = config }
+abbrev pub contextOf : ℕ → ℕ → Context
+contextOf rip rsp = record { registers = rip ∷ rsp ∷ 0 ∷ 1 ∷ replicate 9 0; tpr = 0; pending = replicate 4 0; secure = replicate 4 0; control = noControl }
 
 -- Two processors, levels 0 to 2, two pages. Level 1 has protections on, and its mask of page 1 is 0.
 abbrev pub stateOf : ℕ → ℕ → ℕ → State
@@ -33,9 +29,13 @@ stateOf rip rsp secret = record {
     pages = 2;
     «host_mask» = 15;
     shape = record { «max_level» = level 2; «dr6_shared» = false };
-    levels = partOf true 62 ∷ partOf true 63 ∷ partOf true 62 ∷ partOf false 62 ∷ [];
-    masks = 15 ∷ 15 ∷ 15 ∷ 15 ∷ 15 ∷ 0 ∷ replicate 250 15;
-    vps = replicate 4 (record { active = level 0; shared = replicate 20 0; contexts = contextOf true 0 0 ∷ contextOf true rip 0 ∷ contextOf false 0 rsp ∷ contextOf false 0 0 ∷ [] });
+    partition = record { enabled = levelSet 7; mbec = levelSet 0; configs = 62 ∷ 63 ∷ 62 ∷ 62 ∷ []; masks = 15 ∷ 15 ∷ 15 ∷ 15 ∷ 15 ∷ 0 ∷ replicate 250 15 };
+    vps = replicate 4 (record {
+      active = level 0;
+      enabled = levelSet 3;
+      shared = replicate 20 0;
+      contexts = contextOf 0 0 ∷ contextOf rip 0 ∷ contextOf 0 rsp ∷ contextOf 0 0 ∷ [];
+    });
   };
   words = 5 ∷ secret ∷ [];
 }
@@ -68,7 +68,7 @@ pub record Instance : Type 0 where
   -- its hypotheses hold, so it holds
   pub isolated : Isolated 1 one two events
   -- the answers of the first run, and so those of the second
-  pub first-answers : answers one events ≡ Done 0 ∷ Refused RcxNotZero ∷ Done 5 ∷ Refused NoSuchProcessor ∷ Refused TargetAbove ∷ Done 0 ∷ Done 1 ∷ Intercept (level 1) ∷ Done 1 ∷ []
+  pub first-answers : answers one events ≡ Done 0 ∷ Refused Refusal.RcxNotZero ∷ Done 5 ∷ Refused Refusal.NoSuchProcessor ∷ Refused Refusal.TargetAbove ∷ Done 0 ∷ Done 1 ∷ Intercept (level 1) ∷ Done 1 ∷ []
   pub second-answers : answers two events ≡ answers one events
   -- RIP of level 1 on processor 0, RSP of level 2 there, and the word of page 1 stand as they began
   pub rip-kept : privateOf (shape (final two events)) (vp (final two events) 0) 1 0 ≡ 8

@@ -1,25 +1,31 @@
--- The record of an answer, from the numbers that the code has of it. Assumes nothing.
-use mathlib.Core.Bool.{Bool, cond, _&&_}
+-- What the listing shows of an answer (01, "Script and listing"), as the code holds it: number, value and level. Assumes nothing.
+use mathlib.Core.Bool.{cond}
 use mathlib.Core.List.{List}
 use Prim.Native.Nat.{ℕ}
-use lib.Dec.{eqb, ltb}
+use lib.Dec.{eqb}
 use Rattle.model.specs.Answers.{numberOf, valueOf}
-use Rattle.model.specs.State.{level}
+use Rattle.model.specs.State.{level, isIndex}
 use Rattle.model.specs.declared.answer.Answer.{Answer}
 use Rattle.model.specs.declared.quantity.Level.{Level}
-use Rattle.script.specs.Listing.{listingLine}
+use Rattle.model.specs.declared.quantity.Processor.{Processor}
+use Rattle.script.specs.ListingLine.{listingLine}
+use Rattle.listing.specs.Listing.{Answered}
+use Rattle.listing.specs.declared.Shown.{Shown}
 
 -- The level column for an answer with this number, where this level is active.
-abbrev pub levelShown : ℕ → Level → ℕ
-levelShown number active = cond (eqb number 1) 0 (active .0)
+abbrev pub levelShown : ℕ → Level → Level
+levelShown number active = cond (eqb number 1) (level 0) active
 
-abbrev pub answerText : ℕ → Answer → Level → List ℕ
-answerText number a active = listingLine number (numberOf a) (valueOf a) (levelShown (numberOf a) active)
+abbrev pub shownOf : Answer → Level → Shown
+shownOf a active = record { answer = numberOf a; value = valueOf a; level = levelShown (numberOf a) active }
 
--- Whether v is one of so many processors. There are at most four.
-abbrev pub isKnown : ℕ → ℕ → Bool
-isKnown v processors = ltb v processors && ltb v 4
+-- What is shown of the answer to a line.
+abbrev pub shownBy : Answered → Shown
+shownBy a = record { answer = numberOf (a .answer); value = valueOf (a .answer); level = level (a .level) }
 
--- The level that is active on v, where the machine has `active` at the place for v.
-abbrev pub levelOn : ℕ → ℕ → ℕ → Level
-levelOn v processors active = level (cond (isKnown v processors) active 0)
+abbrev pub shownText : ℕ → Shown → List ℕ
+shownText number shown = listingLine number (shown .answer) (shown .value) (shown .level .0)
+
+-- The level that is active on it, where the machine has `active` at its place.
+abbrev pub levelOn : Processor → ℕ → Level → Level
+levelOn v processors active = cond (isIndex processors (v .0)) active (level 0)

@@ -11,13 +11,12 @@ use Rattle.model.specs.State.{State, active}
 use Rattle.model.specs.Step.{Outcome}
 use Rattle.model.specs.declared.answer.Answer.{Answer}
 use Rattle.model.specs.declared.answer.Answer.the-variants.{Refused}
-use Rattle.model.specs.declared.answer.Refusal.the-variants.{Malformed}
 use Rattle.model.specs.declared.event.Event.{Event}
 use Rattle.model.specs.declared.event.Event.the-variants.{Made, Int}
 use Rattle.model.specs.declared.quantity.Processor.{Processor}
-use Rattle.script.specs.Events.{lineEvent}
+use Rattle.script.specs.EventForms.{lineEvent}
 use Rattle.script.specs.First.{lineFirst}
-use Rattle.script.specs.Listing.{listingLine}
+use Rattle.script.specs.ListingLine.{listingLine}
 use Rattle.script.specs.Records.{lines}
 use Rattle.script.specs.declared.Parsed.{Parsed}
 use Rattle.script.specs.declared.Parsed.the-variants as parsed
@@ -40,9 +39,9 @@ pub record Answered : Type 0 where
   pub level : ℕ
   pub next : State
 
--- A malformed line gets answer 1 and the state stays; an event gets what the model's step gives.
+-- A malformed line gets its refusal, answer 1, and the state stays; an event gets what the model's step gives.
 abbrev pub answered : State → Parsed → Answered
-answered s parsed.Malformed = record { answer = Refused Malformed; level = 0; next = s }
+answered s (parsed.Malformed refusal) = record { answer = Refused refusal; level = 0; next = s }
 answered s (parsed.Event e) =
     record { answer = step s e .answer; level = levelColumn (step s e) (processorOf e); next = step s e .next }
 
@@ -62,7 +61,7 @@ laterRecords number s (line ∷ more) =
 
 -- The state that the first line describes: none where the line is malformed or not admissible.
 abbrev pub stateBy : Start → Option State
-stateBy start.Malformed = none
+stateBy (start.Malformed refusal) = none
 stateBy (start.First f) = cond (admissible f) (some (fresh f)) none
 
 -- The records of the first line: done, and refused.

@@ -11,17 +11,18 @@ use borrow.Author.Tests.{leb-true, leb-false, ltb-true, eqb-true, eqb-false, eq-
 use Rattle.model.specs.declared.answer.Answer.{Answer}
 use Rattle.model.specs.declared.answer.Answer.the-variants.{Done, Refused, Intercept}
 use Rattle.model.specs.declared.answer.Refusal.{Refusal}
-use Rattle.model.specs.declared.answer.Refusal.the-variants.{Malformed, NoSuchProcessor, NoSuchMode, LevelOutOfRange, MbecOutOfRange, LengthOutOfRange, ClassOutOfRange, VectorOutOfRange, NoSuchRegister, NoSuchPage, InvalidMask, ReservedBits, RealModeGiven, UserMode, RealMode, RcxNotZero, NoHigherLevel, AtLevelZero, RcxAboveOne, LevelZero, AboveMaximum, TargetNotAbove, TargetAbove, TargetNotBelow, NothingBelow, EnabledForPartition, EnabledOnProcessor, NotForPartition, NotOnProcessor, ProtectionsOff, NoMbec, ProtectionsCleared, DefaultMaskChanged, KernelOnlyExecute, NoReceiver, HostDenies, TlbLocked, NoneReady, InterruptsOff}
+use Rattle.model.specs.declared.answer.Refusal.the-variants as refusal
 use Rattle.model.specs.declared.event.Event.{Event}
 use Rattle.model.specs.declared.event.Action.the-variants.{Enpart, Envp, Call, Ret, Read, Write, Fetch, Protect, Config, Secure, Flush, Rreg, Wreg, Tpr, Ack, Pstat, Vstat, Caps}
 use Rattle.model.specs.declared.event.Event.the-variants.{Made, Int}
 use Rattle.model.specs.declared.quantity.Access.{Access}
-use Rattle.model.specs.Answers.{refusalNumber, numberOf, valueOf, firstOf}
+use Rattle.model.specs.declared.quantity.Mode.{Mode}
+use Rattle.model.specs.Answers.{refusalNumber, numberOf, valueOf, _when_, firstOf}
 use Rattle.model.specs.Claims.{conditions, rises, applies, Rising, Smallest, Unchanged, Entered, OnlyEntered}
-use Rattle.model.specs.Events.{madeOn, byAccess}
-use Rattle.model.specs.Memory.{denies, receiver}
+use Rattle.model.specs.Events.{byAccess}
+use Rattle.model.specs.Memory.{deniesIn, denies, receiver}
 use Rattle.model.specs.State.{State, processors, level, active, enabledOn}
-use Rattle.model.specs.Step.{Outcome, rule, ruleOf, maker, intercepted, nextFor, answered, ruled, step}
+use Rattle.model.specs.Step.{Outcome, rule, ruleOf, maker, modeOf, intercepted, nextFor, ruled, step}
 use Rattle.model.specs.WellFormed.{wellFormed}
 use Rattle.model.proofs.Bools.{and-left, and-right, or-elim}
 use Rattle.model.proofs.Bounded.{least-found}
@@ -41,6 +42,10 @@ isRefusal (Intercept l) = false
 abbrev plain : List (Answer × Bool) → Bool
 plain [] = true
 plain (c ∷ cs) = isRefusal (c .0) && plain cs
+
+-- The conditions of an access that is made on processor v.
+abbrev accessConditions : State → ℕ → ℕ → ℕ → Access → List (Answer × Bool)
+accessConditions s v mode p a = Refusal.NoSuchProcessor when leb (processors s) v ∷ Refusal.NoSuchMode when ltb 1 mode ∷ byAccess s v (modeOf mode) p a
 
 -- A proof for each answer that the list can give, with what is known there: the condition holds and those before it fail. What
 -- the list gives is a function of the answer where no condition applies: that answer itself, or always one and the same.
@@ -71,20 +76,20 @@ module _ (P : Given) (refused : (r : Refusal) → P (λ a. Refused r)) where
   plain-cases (c ∷ cs) p f =
       (λ e. a-refusal (c .0) (and-left (isRefusal (c .0)) (plain cs) p), λ e. plain-cases cs (and-right (isRefusal (c .0)) (plain cs) p) (λ q. f (e, q)))
 
-  access-cases : (s : State) (v mode p : ℕ) (access : Access) → (leb (processors s) v ≡ false → ltb (receiver s v mode p access) 4 ≡ true → P (λ a. Intercept (level (receiver s v mode p access)))) →
-      (Passed (madeOn s v mode (byAccess s v mode p access)) → P (λ a. a)) → Cases P (madeOn s v mode (byAccess s v mode p access))
+  access-cases : (s : State) (v mode p : ℕ) (access : Access) → (leb (processors s) v ≡ false → ltb (receiver s v (modeOf mode) p access) 4 ≡ true → P (λ a. Intercept (level (receiver s v (modeOf mode) p access)))) →
+      (Passed (accessConditions s v mode p access) → P (λ a. a)) → Cases P (accessConditions s v mode p access)
   access-cases s v mode p access taken f = (
-    λ _. refused NoSuchProcessor,
+    λ _. refused Refusal.NoSuchProcessor,
     λ inside. (
-      λ _. refused NoSuchMode,
+      λ _. refused Refusal.NoSuchMode,
       λ h₂. (
-        λ _. refused NoSuchPage,
+        λ _. refused Refusal.NoSuchPage,
         λ h₃. (
           λ h. taken inside h,
           λ h₉. (
-            λ _. refused NoReceiver,
+            λ _. refused Refusal.NoReceiver,
             λ h₁₀. (
-              λ _. refused HostDenies,
+              λ _. refused Refusal.HostDenies,
               λ h₁₁.
                   f (inside, (h₂, (h₃, (h₉, (h₁₀, (h₁₁, tt)))))),
             ),
@@ -97,7 +102,7 @@ module _ (P : Given) (refused : (r : Refusal) → P (λ a. Refused r)) where
 -- Every event's conditions are plain and rise, or are those of an access by its maker.
 data Kind (s : State) (e : Event) : Type 0 where
   ordinary : (plain (rule s e .refusals) && rises 1 (rule s e .refusals)) ≡ true → Kind s e
-  access : (v mode p : ℕ) (a : Access) → maker e ≡ some v → rule s e .refusals ≡ madeOn s v mode (byAccess s v mode p a) → Kind s e
+  access : (v mode p : ℕ) (a : Access) → maker e ≡ some v → rule s e .refusals ≡ accessConditions s v mode p a → Kind s e
 
 kind : (s : State) (e : Event) → Kind s e
 unfolding rule ruleOf maker
@@ -131,8 +136,8 @@ pub record Taken (s : State) (e : Event) (l : ℕ) : Type 0 where
   pub above : active s v < l
 
 -- What the least denying level is.
-receiver-taken : (s : State) (e : Event) (v mode p : ℕ) (a : Access) → maker e ≡ some v → leb (processors s) v ≡ false → ltb (receiver s v mode p a) 4 ≡ true → Taken s e (receiver s v mode p a)
-unfolding receiver denies
+receiver-taken : (s : State) (e : Event) (v : ℕ) (mode : Mode) (p : ℕ) (a : Access) → maker e ≡ some v → leb (processors s) v ≡ false → ltb (receiver s v mode p a) 4 ≡ true → Taken s e (receiver s v mode p a)
+unfolding receiver denies deniesIn
 receiver-taken s e v mode p a m i h =
     let t : ℕ = receiver s v mode p a in
     let in-t : t < 4 = ltb-true t 4 h in
@@ -154,17 +159,20 @@ condition-cases s e P done refused taken = go (kind s e)
     go : Kind s e → P (firstOf (rule s e .refusals))
     go (ordinary p) = by-cases P _ (plain-cases P refused (rule s e .refusals) (and-left (plain (rule s e .refusals)) _ p) done)
     go (access v mode p a m q) =
-        by-cases P _ (rw q (access-cases P refused s v mode p a (λ i h. taken _ (receiver-taken s e v mode p a m i h)) (λ ps. done (subst Passed (sym q) ps))))
+        by-cases P _ (rw q (access-cases P refused s v mode p a (λ i h. taken _ (receiver-taken s e v (modeOf mode) p a m i h)) (λ ps. done (subst Passed (sym q) ps))))
 
 -- The same for one step.
-pub step-cases : (s : State) (e : Event) (P : Outcome → Type 0) → (wellFormed s ≡ true → Passed (rule s e .refusals) → P (answered (Done (rule s e .value)) s e)) → ((r : Refusal) → P (answered (Refused r) s e)) → (wellFormed s ≡ true → (l : ℕ) → Taken s e l → P (answered (Intercept (level l)) s e)) →
-    P (step s e)
-unfolding step ruled
+abbrev pub given : State → Event → Answer → Outcome
+given s e a = record { answer = a; next = nextFor a s (maker e) (rule s e .effect) }
+
+pub step-cases : (s : State) (e : Event) (P : Outcome → Type 0) → (wellFormed s ≡ true → Passed (rule s e .refusals) → P (given s e (Done (rule s e .value)))) → ((r : Refusal) → P (given s e (Refused r))) →
+    (wellFormed s ≡ true → (l : ℕ) → Taken s e l → P (given s e (Intercept (level l)))) → P (step s e)
+unfolding step ruled nextFor
 step-cases s e P done refused taken = go (wellFormed s) refl
   where
-    go : (b : Bool) → wellFormed s ≡ b → P (cond b (ruled s e) (answered (Refused Malformed) s e))
-    go true w = condition-cases s e (λ g. P (answered (g (Done (rule s e .value))) s e)) (done w) refused (taken w)
-    go false w = refused Malformed
+    go : (b : Bool) → wellFormed s ≡ b → P (cond b (ruled s e) (given s e (Refused Refusal.NotWellFormed)))
+    go true w = condition-cases s e (λ g. P (given s e (g (Done (rule s e .value))))) (done w) refused (taken w)
+    go false w = refused Refusal.NotWellFormed
 
 -- Demand 1.
 pub unchanged : Unchanged
@@ -175,45 +183,50 @@ unchanged s e = step-cases s e (λ o. (numberOf (o .answer) ≡ 0 → ⊥) → (
     (λ w l t done nine. absurd (nine refl))
 
 not-nine : (r : Refusal) → eqb (refusalNumber r) 9 ≡ false
-not-nine Malformed = refl
-not-nine NoSuchProcessor = refl
-not-nine NoSuchMode = refl
-not-nine LevelOutOfRange = refl
-not-nine MbecOutOfRange = refl
-not-nine LengthOutOfRange = refl
-not-nine ClassOutOfRange = refl
-not-nine VectorOutOfRange = refl
-not-nine NoSuchRegister = refl
-not-nine NoSuchPage = refl
-not-nine InvalidMask = refl
-not-nine ReservedBits = refl
-not-nine RealModeGiven = refl
-not-nine UserMode = refl
-not-nine RealMode = refl
-not-nine RcxNotZero = refl
-not-nine NoHigherLevel = refl
-not-nine AtLevelZero = refl
-not-nine RcxAboveOne = refl
-not-nine LevelZero = refl
-not-nine AboveMaximum = refl
-not-nine TargetNotAbove = refl
-not-nine TargetAbove = refl
-not-nine TargetNotBelow = refl
-not-nine NothingBelow = refl
-not-nine EnabledForPartition = refl
-not-nine EnabledOnProcessor = refl
-not-nine NotForPartition = refl
-not-nine NotOnProcessor = refl
-not-nine ProtectionsOff = refl
-not-nine NoMbec = refl
-not-nine ProtectionsCleared = refl
-not-nine DefaultMaskChanged = refl
-not-nine KernelOnlyExecute = refl
-not-nine NoReceiver = refl
-not-nine HostDenies = refl
-not-nine TlbLocked = refl
-not-nine NoneReady = refl
-not-nine InterruptsOff = refl
+not-nine refusal.LineTooLong = refl
+not-nine refusal.UnknownWord = refl
+not-nine refusal.WrongFieldCount = refl
+not-nine refusal.NotANumber = refl
+not-nine refusal.NotWellFormed = refl
+not-nine refusal.NoSuchProcessor = refl
+not-nine refusal.NoSuchTarget = refl
+not-nine refusal.NoSuchMode = refl
+not-nine refusal.LevelOutOfRange = refl
+not-nine refusal.MbecOutOfRange = refl
+not-nine refusal.LengthOutOfRange = refl
+not-nine refusal.ClassOutOfRange = refl
+not-nine refusal.VectorOutOfRange = refl
+not-nine refusal.NoSuchRegister = refl
+not-nine refusal.NoSuchPage = refl
+not-nine refusal.InvalidMask = refl
+not-nine refusal.ReservedBits = refl
+not-nine refusal.Cr0InRealMode = refl
+not-nine refusal.UserMode = refl
+not-nine refusal.CallInRealMode = refl
+not-nine refusal.RcxNotZero = refl
+not-nine refusal.NoHigherLevel = refl
+not-nine refusal.ReturnAtLevelZero = refl
+not-nine refusal.RcxAboveOne = refl
+not-nine refusal.LevelZero = refl
+not-nine refusal.AboveMaximum = refl
+not-nine refusal.TargetNotAbove = refl
+not-nine refusal.TargetAbove = refl
+not-nine refusal.TargetNotBelow = refl
+not-nine refusal.ProtectAtLevelZero = refl
+not-nine refusal.EnabledForPartition = refl
+not-nine refusal.EnabledOnProcessor = refl
+not-nine refusal.NotEnabledForPartition = refl
+not-nine refusal.NotEnabledOnProcessor = refl
+not-nine refusal.ProtectionsOff = refl
+not-nine refusal.NoMbec = refl
+not-nine refusal.ProtectionsCleared = refl
+not-nine refusal.DefaultMaskChanged = refl
+not-nine refusal.KernelOnlyExecute = refl
+not-nine refusal.NoReceiver = refl
+not-nine refusal.HostDenies = refl
+not-nine refusal.TlbLocked = refl
+not-nine refusal.NoReadyVector = refl
+not-nine refusal.InterruptFlagClear = refl
 
 pub only-entered : OnlyEntered
 unfolding nextFor intercepted
@@ -224,10 +237,10 @@ only-entered s e = step-cases s e (λ o. numberOf (o .answer) ≡ 9 → Entered 
 
 -- The smallest number is given. One step's first condition is that the state is not well formed.
 step-is : (s : State) (e : Event) → step s e .answer ≡ firstOf (conditions s e) (Done (rule s e .value))
-unfolding step ruled firstOf
+unfolding step ruled nextFor firstOf
 step-is s e = go (wellFormed s)
   where
-    go : (b : Bool) → cond b (ruled s e) (answered (Refused Malformed) s e) .answer ≡ cond (not b) (Refused Malformed) (firstOf (rule s e .refusals) (Done (rule s e .value)))
+    go : (b : Bool) → cond b (ruled s e) (given s e (Refused Refusal.NotWellFormed)) .answer ≡ cond (not b) (Refused Refusal.NotWellFormed) (firstOf (rule s e .refusals) (Done (rule s e .value)))
     go true = refl
     go false = refl
 

@@ -2,6 +2,10 @@
 use mathlib.Core.Path.{_≡_, refl, sym, _∙_}
 use mathlib.Core.Bool.{Bool, true, false, not, cond, _&&_, _||_, false≢true, true≢false}
 use mathlib.Core.List.{List, [], _∷_}
+use Prim.Native.Nat.{ℕ, _<_}
+use native.Mathlib.Omega.{arith}
+use lib.Dec.{eqb}
+use borrow.Author.Tests.{eqb-false}
 use Rattle.model.specs.Bounded.{allOf}
 
 pub and-left : (a b : Bool) → (a && b) ≡ true → a ≡ true
@@ -94,3 +98,7 @@ cond-else false x y = refl
 pub cond-holds : {A : Type 0} (P : A → Type 0) (b : Bool) (x y : A) → P x → P y → P (cond b x y)
 cond-holds P true x y p q = p
 cond-holds P false x y p q = q
+
+-- A number that is not 0.
+pub positive : (n : ℕ) → eqb n 0 ≡ false → 0 < n
+positive n h = let d : (n ≡ 0 → ⊥) = eqb-false n 0 h in omega arith

@@ -1,28 +1,24 @@
 -- What the searches on one processor find, and what keeps its active level. Assumes nothing.
 use mathlib.Core.Path.{_≡_, refl}
-use mathlib.Core.Bool.{Bool, true, false, not, cond, _&&_, false≢true}
+use mathlib.Core.Bool.{true, false, not, _&&_}
 use Prim.Native.Nat.{ℕ, _<_}
 use native.Mathlib.Omega.{arith}
 use lib.Dec.{ltb, eqb}
-use lib.ListN.{getD}
 use borrow.Author.Tests.{ltb-true, eqb-false}
 use Rattle.model.specs.declared.machine.Shape.{Shape}
 use Rattle.model.specs.declared.machine.VirtualProcessor.{VirtualProcessor}
 use Rattle.model.specs.Entry.{highestReady, nextUp, advanced, waiting}
-use Rattle.model.specs.State.{noContext, pastContext, isLevel, context, activeOf, enabledAt}
+use Rattle.model.specs.State.{isLevel, context, activeOf, enabledAt}
 use Rattle.model.specs.Updates.{putContext, setPrivate, unlocked}
 use Rattle.model.proofs.Bools.{and-left, and-right}
+use Rattle.model.proofs.LevelSets.{in-level}
 use Rattle.model.proofs.Bounded.{least-le, least-found, highest-found}
 
 module _ (z : Shape) where
   -- A level that is enabled is one of the machine's.
   pub enabled-level : (p : VirtualProcessor) (l : ℕ) → enabledAt z p l ≡ true → isLevel z l ≡ true
-  unfolding enabledAt context
-  enabled-level p l h = go (isLevel z l) h
-    where
-      go : (b : Bool) → cond b (getD (p .contexts) l pastContext) noContext .enabled ≡ true → b ≡ true
-      go true q = refl
-      go false q = absurd (false≢true q)
+  unfolding enabledAt
+  enabled-level p l h = in-level z (p .enabled) l h
 
   -- What the search for the next level up finds, and that for a waiting level.
   pub nextUp-found : (p : VirtualProcessor) → eqb (nextUp z p) 4 ≡ false → (activeOf p < nextUp z p) × (enabledAt z p (nextUp z p) ≡ true)

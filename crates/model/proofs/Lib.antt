@@ -3,7 +3,8 @@ pub mod Bools  -- tests
 pub mod Bounded  -- tests and searches below a bound
 pub mod Arrays  -- arrays
 pub mod Four  -- arrays of four
-pub mod Sets  -- sets of levels as numbers
+pub mod Sets  -- sets as numbers
+pub mod LevelSets  -- sets of levels
 pub mod Answers  -- the answer that an event's conditions give, and demand 1
 pub mod Fresh  -- the fresh machine is well formed
 pub mod Cases  -- the eight proved cases

@@ -32,6 +32,19 @@ module _ {A : Type 0} where
   mapAt-set f (y ∷ l) zero x = refl
   mapAt-set f (y ∷ l) (suc i) x = ap (λ (t : List A). f 0 y ∷ t) (mapAt-set (λ i. f (suc i)) l i x)
 
+  -- Maps that agree at each place, and at each place but one, which is stored to.
+  pub mapAt-same : (f g : ℕ → A → A) (l : List A) → ((i : ℕ) (x : A) → f i x ≡ g i x) → mapAt f l ≡ mapAt g l
+  unfolding mapAt
+  mapAt-same f g [] h = refl
+  mapAt-same f g (x ∷ l) h = rw (h 0 x, mapAt-same (λ i. f (suc i)) (λ i. g (suc i)) l (λ i. h (suc i)))
+
+  pub mapAt-set-other : (f g : ℕ → A → A) (l : List A) (i : ℕ) (x : A) → ((j : ℕ) → (j ≡ i → ⊥) → (y : A) → f j y ≡ g j y) → mapAt g (set l i x) ≡ set (mapAt f l) i (g i x)
+  unfolding mapAt
+  mapAt-set-other f g [] i x h = refl
+  mapAt-set-other f g (y ∷ l) zero x h = ap (λ (t : List A). g 0 x ∷ t) (sym (mapAt-same (λ i. f (suc i)) (λ i. g (suc i)) l (λ i. h (suc i) (λ e. omega arith))))
+  mapAt-set-other f g (y ∷ l) (suc i) x h =
+      rw (h 0 (λ e. omega arith) y) (ap (λ (t : List A). g 0 y ∷ t) (mapAt-set-other (λ i. f (suc i)) (λ i. g (suc i)) l i x (λ j n. h (suc j) (λ e. n (omega arith)))))
+
   -- What holds of the default and of each image holds after the map.
   pub mapAt-cases : (P : A → Type 0) (f : ℕ → A → A) (l : List A) (i : ℕ) (d : A) → P d → ((x : A) → P (f i x)) → P (getD (mapAt f l) i d)
   unfolding mapAt
@@ -45,10 +58,13 @@ module _ {A : Type 0} where
   mapAt-mapAt f g [] h = refl
   mapAt-mapAt f g (x ∷ l) h = rw (h 0 x) (ap (λ (t : List A). g 0 (f 0 x) ∷ t) (mapAt-mapAt (λ i. f (suc i)) (λ i. g (suc i)) l (λ i. h (suc i))))
 
-  pub mapAt-absorb : (f g : ℕ → A → A) (l : List A) → ((i : ℕ) (x : A) → f i (g i x) ≡ f i x) → mapAt f (mapAt g l) ≡ mapAt f l
+  pub mapAt-again : (f g h : ℕ → A → A) (l : List A) → ((i : ℕ) (x : A) → f i (g i x) ≡ h i x) → mapAt f (mapAt g l) ≡ mapAt h l
   unfolding mapAt
-  mapAt-absorb f g [] h = refl
-  mapAt-absorb f g (x ∷ l) h = rw (h 0 x, mapAt-absorb (λ i. f (suc i)) (λ i. g (suc i)) l (λ i. h (suc i)))
+  mapAt-again f g h [] e = refl
+  mapAt-again f g h (x ∷ l) e = rw (e 0 x, mapAt-again (λ i. f (suc i)) (λ i. g (suc i)) (λ i. h (suc i)) l (λ i. e (suc i)))
+
+  pub mapAt-absorb : (f g : ℕ → A → A) (l : List A) → ((i : ℕ) (x : A) → f i (g i x) ≡ f i x) → mapAt f (mapAt g l) ≡ mapAt f l
+  mapAt-absorb f g = mapAt-again f g f
 
   pub mapAt-ext : (f g : ℕ → A → A) (l : List A) (d : A) → ((i : ℕ) → i < length l → f i (getD l i d) ≡ g i (getD l i d)) → mapAt f l ≡ mapAt g l
   unfolding mapAt

@@ -8,33 +8,36 @@ use Prim.Native.Nat.{ℕ, zero, suc, _+_, _*_, _≤_, _<_}
 use native.Mathlib.Omega.{arith}
 use lib.Dec.{leb, ltb, eqb}
 use lib.ListN.{length, getD, set, length-set}
-use lib.Seq.{getD-set-other}
-use borrow.Author.Tests.{lt-ltb, lt-leb, eq-eqb, ltb-true, ltb-false, leb-true, not-false}
+use lib.Seq.{getD-set-same, getD-set-other}
+use borrow.Author.Tests.{lt-ltb, lt-leb, eq-eqb, eqb-true, eqb-false, ltb-true, ltb-false, leb-true, not-false}
 use Rattle.word.specs.Field.{bit}
 use Rattle.model.specs.declared.event.Event.{Event}
 use Rattle.model.specs.declared.event.Action.the-variants.{Enpart, Envp, Call, Ret, Read, Write, Fetch, Protect, Config, Secure, Flush, Rreg, Wreg, Tpr, Ack, Pstat, Vstat, Caps}
 use Rattle.model.specs.declared.event.Event.the-variants.{Made, Int}
 use Rattle.model.specs.declared.machine.Context.{Context}
-use Rattle.model.specs.declared.machine.PartitionLevel.{PartitionLevel}
+use Rattle.model.specs.declared.machine.Partition.{Partition}
 use Rattle.model.specs.declared.machine.Shape.{Shape}
 use Rattle.model.specs.declared.machine.VirtualProcessor.{VirtualProcessor}
 use Rattle.model.specs.declared.quantity.Access.{Access}
 use Rattle.model.specs.Arrays.{numberAt, stored}
 use Rattle.model.specs.Entry.{recordOf, enter, nextUp, advanced, called, restored, waiting, reentered, left, returned, enters, interrupted, startedContext, started, acknowledged, byCall, byInterrupt}
-use Rattle.model.specs.Events.{onVp, onLevel, configured}
-use Rattle.model.specs.Masks.{readBit, writeBit, turnsOn, defaultMask, protects}
+use Rattle.model.specs.Events.{configured}
+use Rattle.model.specs.Masks.{readBit, writeBit, turnsOn, defaultMask, protectsIn, protects}
 use Rattle.model.specs.Memory.{needed}
 use Rattle.model.specs.Registers.{rip, cr0, rax, rcx, protectedBit, isPrivate, privateOf, sharedOf}
-use Rattle.model.specs.State.{State, noContext, pastContext, noVp, pastVp, noLevel, processors, shape, top, pages, isLevel, isProcessor, isPage, vp, context, partitionLevel, activeOf, active, enabledAt, enabledOn, configOf, maskOf, hostMask, wordOf}
-use Rattle.model.specs.Step.{rule, ruleOf, maker, intercepted, nextFor, step}
-use Rattle.model.specs.Updates.{withControl, withActive, withConfig, withEnabled, putContext, setShared, setPrivate, setRegister, setTpr, setPending, setSecure, unlocked, putVp, putLevel, putMasks, setMask, filled, fillMasks, setWord}
-use Rattle.model.specs.WellFormed.{wellModed, wellFormed}
+use Rattle.model.specs.State.{State, noContext, pastContext, noVp, pastVp, processors, shape, pages, partition, isLevel, isProcessor, vp, context, activeOf, active, enabledAt, enabledOn, configIn, maskIn, maskOf, hostMask, wordOf}
+use Rattle.model.specs.Step.{rule, ruleOf, maker, modeOf, intercepted, nextFor, step}
+use Rattle.model.specs.Updates.{withControl, withActive, putContext, setShared, setPrivate, setRegister, setTpr, setPending, setSecure, unlocked, enableLevel, setConfig, setMask, filled, fillMasks, putVp, putPartition, setWord, onVp, onPartition}
+use Rattle.model.specs.WellFormed.{wellModedVp, wellModed, wellFormed}
 use Rattle.model.proofs.Answers.{Passed, step-cases}
 use Rattle.model.proofs.Arrays.{set-cases, stored-cases, number-cases}
 use Rattle.model.proofs.Bools.{and-left, and-right, and-not, implied, implies-test, cond-holds}
 use Rattle.model.proofs.Bounded.{every-at, every-all, any-cong}
 use Rattle.model.specs.Hide.{closed, hides}
 use Rattle.model.specs.Hide.{quietMaker}
+use Rattle.model.proofs.Formed.{is-processor, is-level, four-contexts}
+use Rattle.model.proofs.Four.{level-low}
+use Rattle.model.proofs.LevelSets.{in-here, in-other}
 use Rattle.model.proofs.Steps.{maker-low, open-page, read-of-write}
 
 -- What holds of an old record, and of the new one at its own place, holds of what is read after the record is put.
@@ -56,28 +59,34 @@ vp-cases P s v w p h k = go (isProcessor s w) h
     go true q = stored-cases P 4 (s .machine .vps) v w p pastVp q k
     go false q = q
 
-pub level-cases : (P : PartitionLevel → Type 0) (s : State) (l j : ℕ) (x : PartitionLevel) → P (partitionLevel s j) → (j ≡ l → P x) → P (partitionLevel (putLevel s l x) j)
-unfolding partitionLevel putLevel shape
-level-cases P s l j x h k = go (isLevel (shape s) j) h
-  where
-    go : (b : Bool) → P (cond b (getD (s .machine .levels) j noLevel) noLevel) → P (cond b (getD (stored 4 (s .machine .levels) l x) j noLevel) noLevel)
-    go true q = stored-cases P 4 (s .machine .levels) l j x noLevel q k
-    go false q = q
+-- A context that is put is there, in an array of four.
+pub context-put : (z : Shape) (p : VirtualProcessor) (l : ℕ) (c : Context) → isLevel z l ≡ true → length (p .contexts) ≡ 4 → context z (putContext z p l c) l ≡ c
+unfolding context putContext
+context-put z p l c i n = rw (i, getD-set-same (p .contexts) l c pastContext (omega (arith, level-low z l i)))
+
+-- Putting a context changes no set of levels.
+pub put-enabled : (z : Shape) (p : VirtualProcessor) (l : ℕ) (c : Context) (j : ℕ) → enabledAt z (putContext z p l c) j ≡ enabledAt z p j
+unfolding enabledAt putContext
+put-enabled z p l c j = refl
 
 -- What no event changes of a state: its sizes and the host mask.
 abbrev pub frame : State → ℕ × Shape × ℕ × ℕ × ℕ
 frame s = (processors s, shape s, pages s, length (s .words), s .machine .«host_mask»)
 
--- From c to d, contexts of level l: an enabled level stays so, the registers of a level from K up change only where it is first
--- enabled, and CR0 bit 0 stays set.
-pub record Turned (K l : ℕ) (c d : Context) : Type 0 where
-  pub grows : c .enabled ≡ true → d .enabled ≡ true
-  pub registers : hides K (c .enabled) l (d .enabled) ≡ true → d .registers ≡ c .registers
-  pub mode : 0 < l → (c .enabled ≡ true → bit (numberAt 13 (c .registers) cr0) protectedBit ≡ true) → d .enabled ≡ true → bit (numberAt 13 (d .registers) cr0) protectedBit ≡ true
+-- From c to d, contexts of level l, which is enabled as a and b tell: an enabled level stays so, the registers of a level from K
+-- up change only where it is first enabled, and CR0 bit 0 stays set.
+pub record Turned (K l : ℕ) (a : Bool) (c : Context) (b : Bool) (d : Context) : Type 0 where
+  pub grows : a ≡ true → b ≡ true
+  pub registers : hides K a l b ≡ true → d .registers ≡ c .registers
+  pub mode : 0 < l → (a ≡ true → bit (numberAt 13 (c .registers) cr0) protectedBit ≡ true) → b ≡ true → bit (numberAt 13 (d .registers) cr0) protectedBit ≡ true
 
 module _ (K : ℕ) where
-  same-turned : (l : ℕ) (c : Context) → Turned K l c c
-  same-turned l c = record { grows = λ h. h; registers = λ h. refl; mode = λ z h e. h e }
+  -- Registers as they were.
+  quiet-turned : (l : ℕ) (a : Bool) (c d : Context) → d .registers ≡ c .registers → Turned K l a c a d
+  quiet-turned l a c d q = record { grows = λ h. h; registers = λ h. q; mode = λ z h e. rw q (h e) }
+
+  same-turned : (l : ℕ) (a : Bool) (c : Context) → Turned K l a c a c
+  same-turned l a c = quiet-turned l a c c refl
 
   -- From first to last only what each part hides is hidden.
   hides-parts : (l : ℕ) (a b c : Bool) → (a ≡ true → b ≡ true) → (b ≡ true → c ≡ true) → hides K a l c ≡ true → (hides K a l b ≡ true) × (hides K b l c ≡ true)
@@ -89,42 +98,38 @@ module _ (K : ℕ) where
   hides-parts l false false true f g h = absurd (false≢true (sym (and-false (leb K l)) ∙ h))
   hides-parts l false false false f g h = (h, h)
 
-  then-turned : (l : ℕ) (c d e : Context) → Turned K l c d → Turned K l d e → Turned K l c e
-  then-turned l c d e a b = record {
+  then-turned : (l : ℕ) (x : Bool) (c : Context) (y : Bool) (d : Context) (z : Bool) (e : Context) → Turned K l x c y d → Turned K l y d z e → Turned K l x c z e
+  then-turned l x c y d z e a b = record {
     grows = λ h. b .grows (a .grows h);
-    registers = λ h. let q = hides-parts l (c .enabled) (d .enabled) (e .enabled) (a .grows) (b .grows) h in b .registers (q .1) ∙ a .registers (q .0);
+    registers = λ h. let q = hides-parts l x y z (a .grows) (b .grows) h in b .registers (q .1) ∙ a .registers (q .0);
     mode = λ z h. b .mode z (a .mode z h);
   }
-
-  -- Registers and enabled as they were.
-  quiet-turned : (l : ℕ) (c d : Context) → d .enabled ≡ c .enabled → d .registers ≡ c .registers → Turned K l c d
-  quiet-turned l c d p q = record { grows = λ h. p ∙ h; registers = λ h. q; mode = λ z h e. rw q (h (sym p ∙ e)) }
 
   -- One processor.
   module _ (z : Shape) where
     abbrev pub TurnedAll : VirtualProcessor → VirtualProcessor → Type 0
-    TurnedAll p q = (l : ℕ) → Turned K l (context z p l) (context z q l)
+    TurnedAll p q = (l : ℕ) → Turned K l (enabledAt z p l) (context z p l) (enabledAt z q l) (context z q l)
 
     same-all : (p : VirtualProcessor) → TurnedAll p p
-    same-all p l = same-turned l (context z p l)
+    same-all p l = same-turned l _ _
 
     then-all : (p q r : VirtualProcessor) → TurnedAll p q → TurnedAll q r → TurnedAll p r
-    then-all p q r a b l = then-turned l (context z p l) (context z q l) (context z r l) (a l) (b l)
+    then-all p q r a b l = then-turned l _ _ _ _ _ _ (a l) (b l)
 
-    put-turned : (p : VirtualProcessor) (l : ℕ) (c : Context) → Turned K l (context z p l) c → TurnedAll p (putContext z p l c)
-    put-turned p l c t j = context-cases (λ d. Turned K j (context z p j) d) z p l j c (same-turned j (context z p j)) (λ e. rw e t)
+    put-turned : (p : VirtualProcessor) (l : ℕ) (c : Context) → Turned K l (enabledAt z p l) (context z p l) (enabledAt z p l) c → TurnedAll p (putContext z p l c)
+    put-turned p l c t j = rw (put-enabled z p l c j) (context-cases (λ d. Turned K j (enabledAt z p j) (context z p j) (enabledAt z p j) d) z p l j c (same-turned j _ _) (λ e. rw e t))
 
-    -- An update of a context that keeps registers and enabled.
-    quiet-put : (p : VirtualProcessor) (l : ℕ) (c : Context) → c .enabled ≡ context z p l .enabled → c .registers ≡ context z p l .registers → TurnedAll p (putContext z p l c)
-    quiet-put p l c a b = put-turned p l c (quiet-turned l (context z p l) c a b)
+    -- An update of a context that keeps registers.
+    quiet-put : (p : VirtualProcessor) (l : ℕ) (c : Context) → c .registers ≡ context z p l .registers → TurnedAll p (putContext z p l c)
+    quiet-put p l c q = put-turned p l c (quiet-turned l _ (context z p l) c q)
 
     setShared-turned : (p : VirtualProcessor) (r x : ℕ) → TurnedAll p (setShared p r x)
-    unfolding context setShared
-    setShared-turned p r x l = same-turned l (context z p l)
+    unfolding enabledAt context setShared
+    setShared-turned p r x l = same-turned l _ _
 
     active-turned : (p : VirtualProcessor) (a : ℕ) → TurnedAll p (withActive p a)
-    unfolding context
-    active-turned p a l = same-turned l (context z p l)
+    unfolding enabledAt context
+    active-turned p a l = same-turned l _ _
 
     setPrivate-turned : (p : VirtualProcessor) (l r x : ℕ) → l < K → (0 < l → r ≡ cr0 → bit x protectedBit ≡ true) → TurnedAll p (setPrivate z p l r x)
     unfolding setPrivate hides
@@ -140,31 +145,63 @@ module _ (K : ℕ) where
 
     enter-turned : (p : VirtualProcessor) (l reason : ℕ) → TurnedAll p (enter z p l reason)
     unfolding enter
-    enter-turned p l reason = then-all p _ _ (quiet-put p l (withControl (context z p l) (recordOf p reason)) refl refl) (active-turned _ l)
+    enter-turned p l reason = then-all p _ _ (quiet-put p l (withControl (context z p l) (recordOf p reason)) refl) (active-turned _ l)
 
     setTpr-turned : (p : VirtualProcessor) (l class : ℕ) → TurnedAll p (setTpr z p l class)
     unfolding setTpr
-    setTpr-turned p l class = quiet-put p l _ refl refl
+    setTpr-turned p l class = quiet-put p l _ refl
 
     setPending-turned : (p : VirtualProcessor) (l n x : ℕ) → TurnedAll p (setPending z p l n x)
     unfolding setPending
-    setPending-turned p l n x = quiet-put p l _ refl refl
+    setPending-turned p l n x = quiet-put p l _ refl
 
     setSecure-turned : (p : VirtualProcessor) (t l w : ℕ) → TurnedAll p (setSecure z p t l w)
     unfolding setSecure
-    setSecure-turned p t l w = quiet-put p t _ refl refl
+    setSecure-turned p t l w = quiet-put p t _ refl
 
     unlocked-turned : (p : VirtualProcessor) (t : ℕ) → TurnedAll p (unlocked z p t)
     unfolding unlocked
-    unlocked-turned p t = quiet-put p t _ refl refl
+    unlocked-turned p t = quiet-put p t _ refl
 
-    started-turned : (p : VirtualProcessor) (t ip sp cr : ℕ) → enabledAt z p t ≡ false → bit cr protectedBit ≡ true → TurnedAll p (started z p t ip sp cr)
-    unfolding started enabledAt hides numberAt
-    started-turned p t ip sp cr h b = put-turned p t (startedContext (context z p t) ip sp cr) (record {
-      grows = λ e. refl;
-      registers = λ e. absurd (false≢true (simp (h, and-false) at e));
-      mode = λ o m e. b;
-    })
+    -- Level t is first enabled.
+    module _ (p : VirtualProcessor) (t ip sp cr : ℕ) (i : isLevel z t ≡ true) (four : length (p .contexts) ≡ 4) where
+      abbrev pub begun : Context
+      begun = startedContext (context z p t) ip sp cr
+
+      abbrev pub after : VirtualProcessor
+      after = started z p t ip sp cr
+
+      context-begun : context z after t ≡ begun
+      unfolding started context putContext
+      context-begun = context-put z p t (startedContext (context z p t) ip sp cr) i four
+
+      context-other : (P : Context → Type 0) (j : ℕ) → (j ≡ t → ⊥) → P (context z p j) → P (context z after j)
+      unfolding started context putContext
+      context-other P j n h = context-cases P z p t j (startedContext (context z p t) ip sp cr) h (λ e. absurd (n e))
+
+      pub enabled-begun : enabledAt z after t ≡ true
+      unfolding enabledAt started
+      enabled-begun = in-here z (p .enabled) t true i
+
+      pub enabled-other : (j : ℕ) → (j ≡ t → ⊥) → enabledAt z after j ≡ enabledAt z p j
+      unfolding enabledAt started
+      enabled-other j n = in-other z (p .enabled) t true i j n
+
+      -- What holds of the context that begins, and of the others as they were, holds of each.
+      pub started-cases : (P : ℕ → Bool → Context → Type 0) → P t true begun → ((j : ℕ) → (j ≡ t → ⊥) → P j (enabledAt z p j) (context z p j)) → (j : ℕ) → P j (enabledAt z after j) (context z after j)
+      started-cases P new old j = go (eqb j t) refl
+        where
+          go : (b : Bool) → eqb j t ≡ b → P j (enabledAt z after j) (context z after j)
+          go true e = rw (eqb-true j t e, enabled-begun, context-begun) new
+          go false e = let n = eqb-false j t e in rw (enabled-other j n) (context-other (P j (enabledAt z p j)) j n (old j n))
+
+      started-turned : enabledAt z p t ≡ false → bit cr protectedBit ≡ true → TurnedAll p after
+      unfolding numberAt hides
+      started-turned h b = started-cases (λ j on c. Turned K j (enabledAt z p j) (context z p j) on c) (rw h (record {
+        grows = λ e. refl;
+        registers = λ e. absurd (false≢true (simp and-false at e));
+        mode = λ o m e. b;
+      })) (λ j n. same-turned j _ _)
 
     advanced-turned : (p : VirtualProcessor) (n : ℕ) → activeOf p < K → TurnedAll p (advanced z p n)
     unfolding advanced
@@ -210,7 +247,7 @@ module _ (K : ℕ) where
   -- The whole state: the frame, what the levels from K up protect and how, hidden words, and each context.
   pub record Moved (s t : State) : Type 0 where
     pub frame-kept : frame t ≡ frame s
-    pub contexts : (v l : ℕ) → Turned K l (context (shape s) (vp s v) l) (context (shape t) (vp t v) l)
+    pub contexts : (v l : ℕ) → Turned K l (enabledOn s v l) (context (shape s) (vp s v) l) (enabledOn t v l) (context (shape t) (vp t v) l)
     pub protections : (l : ℕ) → K ≤ l → protects t l ≡ protects s l
     pub masks : (l p : ℕ) → K ≤ l → maskOf t l p ≡ maskOf s l p
     pub words : (p : ℕ) → closed K s p ≡ true → wordOf t p ≡ wordOf s p
@@ -218,7 +255,7 @@ module _ (K : ℕ) where
   pub same-moved : (s : State) → Moved s s
   same-moved s = record {
     frame-kept = refl;
-    contexts = λ v l. same-turned l _;
+    contexts = λ v l. same-turned l _ _;
     protections = λ l h. refl;
     masks = λ l p h. refl;
     words = λ p h. refl;
@@ -238,55 +275,53 @@ module _ (K : ℕ) where
   pub then-moved : (s t u : State) → Moved s t → Moved t u → Moved s u
   then-moved s t u a b = record {
     frame-kept = b .frame-kept ∙ a .frame-kept;
-    contexts = λ v l. then-turned l _ _ _ (a .contexts v l) (b .contexts v l);
+    contexts = λ v l. then-turned l _ _ _ _ _ _ (a .contexts v l) (b .contexts v l);
     protections = λ l h. b .protections l h ∙ a .protections l h;
     masks = λ l p h. b .masks l p h ∙ a .masks l p h;
     words = λ p h. b .words p (closed-kept s t a p ∙ h) ∙ a .words p h;
   }
 
   onVp-moved : (s : State) (v : ℕ) (f : Shape → VirtualProcessor → VirtualProcessor) → TurnedAll (shape s) (vp s v) (f (shape s) (vp s v)) → Moved s (onVp s v f)
-  unfolding onVp putVp processors shape pages isPage protects configOf partitionLevel maskOf wordOf
+  unfolding onVp putVp processors shape pages partition protects maskOf wordOf enabledOn
   onVp-moved s v f t = record {
     frame-kept = refl;
-    contexts = λ w l. vp-cases (λ q. Turned K l (context (shape s) (vp s w) l) (context (shape s) q l)) s v w (f (shape s) (vp s v)) (same-turned l _) (λ e. rw e (t l));
+    contexts = λ w l. vp-cases (λ q. Turned K l (enabledAt (shape s) (vp s w) l) (context (shape s) (vp s w) l) (enabledAt (shape s) q l) (context (shape s) q l)) s v w (f (shape s) (vp s v)) (same-turned l _ _) (λ e. rw e (t l));
     protections = λ l h. refl;
     masks = λ l q h. refl;
     words = λ q h. refl;
   }
 
-  -- An update of a lower level's part, or one that keeps its configuration.
-  onLevel-moved : (s : State) (l : ℕ) (f : PartitionLevel → PartitionLevel) → (K ≤ l → f (partitionLevel s l) .config ≡ partitionLevel s l .config) → Moved s (onLevel s l f)
-  unfolding onLevel putLevel processors shape pages isPage isProcessor vp protects configOf maskOf wordOf
-  onLevel-moved s l f h = record {
-    frame-kept = refl;
-    contexts = λ w l. same-turned l _;
-    protections = λ j i. level-cases (λ y. turnsOn (cond (eqb j 0) 0 (y .config)) ≡ turnsOn (cond (eqb j 0) 0 (partitionLevel s j .config))) s l j _ refl (λ e. rw (e, h (omega arith)));
-    masks = λ j q i. refl;
-    words = λ q h. refl;
-  }
+  -- A change of what the partition holds that keeps the configuration words and masks of the levels from K up.
+  pub record Below (x y : Partition) : Type 0 where
+    pub configs : (l : ℕ) → K ≤ l → numberAt 4 (y .configs) l ≡ numberAt 4 (x .configs) l
+    pub masks : (l p : ℕ) → K ≤ l → l < 4 → numberAt 256 (y .masks) (4 * p + l) ≡ numberAt 256 (x .masks) (4 * p + l)
 
-  -- Masks of lower levels.
-  masks-moved : (s : State) (ks : List ℕ) → ((j q : ℕ) → K ≤ j → j < 4 → numberAt 256 ks (4 * q + j) ≡ numberAt 256 (s .machine .masks) (4 * q + j)) → Moved s (putMasks s ks)
-  unfolding putMasks processors shape pages isPage isProcessor isLevel vp protects configOf partitionLevel maskOf wordOf
-  masks-moved s ks h = record {
+  partition-moved : (s : State) (f : Shape → Partition → Partition) → Below (partition s) (f (shape s) (partition s)) → Moved s (onPartition s f)
+  unfolding onPartition putPartition processors shape pages partition isProcessor vp protects protectsIn configIn maskOf maskIn wordOf enabledOn
+  partition-moved s f h = record {
     frame-kept = refl;
-    contexts = λ w l. same-turned l _;
-    protections = λ j i. refl;
-    masks = λ j q i. go j q i (ltb 0 j && isLevel (shape s) j && isPage s q) refl;
+    contexts = λ w l. same-turned l _ _;
+    protections = λ l i. rw (h .configs l i);
+    masks = λ l q i. go l q i (ltb 0 l && isLevel (shape s) l && (ltb q (pages s) && ltb q 64)) refl;
     words = λ q h. refl;
   }
     where
-      go : (j q : ℕ) → K ≤ j → (b : Bool) → (ltb 0 j && isLevel (shape s) j && isPage s q) ≡ b → cond b (numberAt 256 ks (4 * q + j)) 0 ≡ cond b (numberAt 256 (s .machine .masks) (4 * q + j)) 0
-      go j q i true e = h j q i (ltb-true j 4 (and-right (leb j (top (shape s))) (ltb j 4) (and-right (ltb 0 j) (isLevel (shape s) j) (and-left (ltb 0 j && isLevel (shape s) j) (isPage s q) e))))
-      go j q i false e = refl
+      go : (l q : ℕ) → K ≤ l → (b : Bool) → (ltb 0 l && isLevel (shape s) l && (ltb q (pages s) && ltb q 64)) ≡ b →
+          cond b (numberAt 256 (f (shape s) (partition s) .masks) (4 * q + l)) 0 ≡ cond b (numberAt 256 (partition s .masks) (4 * q + l)) 0
+      go l q i true e = h .masks l q i (level-low (shape s) l (and-right (ltb 0 l) (isLevel (shape s) l) (and-left (ltb 0 l && isLevel (shape s) l) _ e)))
+      go l q i false e = refl
+
+  enableLevel-below : (z : Shape) (x : Partition) (l : ℕ) (b : Bool) → Below x (enableLevel z x l b)
+  unfolding enableLevel
+  enableLevel-below z x l b = record { configs = λ l i. refl; masks = λ l p i j. refl }
 
   -- A mask of a lower level stands at another place.
   stored-below : (ks : List ℕ) (l p k : ℕ) → l < K → (j q : ℕ) → K ≤ j → j < 4 → numberAt 256 (stored 256 ks (4 * p + l) k) (4 * q + j) ≡ numberAt 256 ks (4 * q + j)
   stored-below ks l p k h j q i b = number-cases (λ y. y ≡ numberAt 256 ks (4 * q + j)) 256 ks (4 * p + l) (4 * q + j) k refl (λ e. absurd (omega arith))
 
-  setMask-moved : (s : State) (l p k : ℕ) → l < K → Moved s (setMask s l p k)
+  setMask-below : (x : Partition) (l p k : ℕ) → l < K → Below x (setMask x l p k)
   unfolding setMask
-  setMask-moved s l p k h = masks-moved s _ (stored-below (s .machine .masks) l p k h)
+  setMask-below x l p k h = record { configs = λ j i. refl; masks = stored-below (x .masks) l p k h }
 
   filled-below : (n P l k : ℕ) (ks : List ℕ) → l < K → (j q : ℕ) → K ≤ j → j < 4 → numberAt 256 (filled n P l k ks) (4 * q + j) ≡ numberAt 256 ks (4 * q + j)
   unfolding filled
@@ -294,22 +329,17 @@ module _ (K : ℕ) where
   filled-below (suc n) P l k ks h j q i b =
       cond-holds (λ ms. numberAt 256 ms (4 * q + j) ≡ numberAt 256 ks (4 * q + j)) (ltb n P) _ _ (stored-below (filled n P l k ks) l n k h j q i b ∙ filled-below n P l k ks h j q i b) (filled-below n P l k ks h j q i b)
 
-  configured-moved : (s : State) (g w : ℕ) → g < K → Moved s (configured s g w)
-  unfolding configured fillMasks
-  configured-moved s g w h =
-      cond-holds (Moved s) (turnsOn w && not (protects s g)) _ t (then-moved s t _ first (masks-moved t _ (filled-below 64 (pages t) g (defaultMask w) (t .machine .masks) h))) first
-    where
-      t : State
-      t = onLevel s g (λ x. withConfig x w)
-
-      first : Moved s t
-      first = onLevel-moved s g (λ x. withConfig x w) (λ i. absurd (omega arith))
+  configured-below : (z : Shape) (P : ℕ) (x : Partition) (g w : ℕ) → g < K → Below x (configured z P x g w)
+  unfolding configured fillMasks setConfig
+  configured-below z P x g w h =
+      let configs : (j : ℕ) → K ≤ j → numberAt 4 (stored 4 (x .configs) g w) j ≡ numberAt 4 (x .configs) j = λ j i. number-cases (λ y. y ≡ numberAt 4 (x .configs) j) 4 (x .configs) g j w refl (λ e. absurd (omega arith)) in
+      cond-holds (Below x) (turnsOn w && not (protectsIn z (x .configs) g)) _ _ (record { configs = configs; masks = filled-below 64 P g (defaultMask w) (x .masks) h }) (record { configs = configs; masks = λ l p i j. refl })
 
   setWord-moved : (s : State) (p x : ℕ) → closed K s p ≡ false → Moved s (setWord s p x)
-  unfolding setWord processors shape pages isPage isProcessor vp protects configOf partitionLevel maskOf wordOf
+  unfolding setWord processors shape pages partition isProcessor vp protects maskOf wordOf enabledOn
   setWord-moved s p x h = record {
     frame-kept = rw (length-set (s .words) p x);
-    contexts = λ w l. same-turned l _;
+    contexts = λ w l. same-turned l _ _;
     protections = λ l h. refl;
     masks = λ j q i. refl;
     words = λ q d. getD-set-other (s .words) p q x 0 (λ e. false≢true (sym h ∙ (rw e at d)));
@@ -322,16 +352,17 @@ module _ (K : ℕ) (k : 1 ≤ K) (s : State) where
 
   effect-moved : wellFormed s ≡ true → (e : Event) → quietMaker K s (maker e) ≡ true → Passed (rule s e .refusals) → Moved K s (rule s e .effect)
   unfolding rule ruleOf maker active
-  effect-moved w (Made v mode (Enpart t mbec)) c ps = onLevel-moved K s (t .0) (λ x. withEnabled x (eqb mbec 1)) (λ i. refl)
-  effect-moved w (Made v mode (Envp u t ip sp cr)) c ps = onVp-moved K s (u .0) (λ z p. started z p (t .0) ip sp cr) (started-turned K (shape s) (vp s (u .0)) (t .0) ip sp cr (unfold enabledOn in search) (not-false (bit cr protectedBit) search))
+  effect-moved w (Made v mode (Enpart t mbec)) c ps = partition-moved K s (λ z x. enableLevel z x (t .0) (eqb mbec 1)) (enableLevel-below K (shape s) (partition s) (t .0) (eqb mbec 1))
+  effect-moved w (Made v mode (Envp u t ip sp cr)) c ps = onVp-moved K s (u .0) (λ z p. started z p (t .0) ip sp cr) (started-turned K (shape s) (vp s (u .0)) (t .0) ip sp cr (is-level s w (t .0) search) (four-contexts s w (u .0) (is-processor s w (u .0) search)) (unfold enabledOn in search) (not-false (bit cr protectedBit) search))
   effect-moved w (Made v mode (Call len)) c ps = onVp-moved K s (v .0) (λ z p. called z p len) (called-turned K (shape s) (vp s (v .0)) len (low (v .0) c))
   effect-moved w (Made v mode (Ret len)) c ps = onVp-moved K s (v .0) (λ z p. returned z p len) (returned-turned K (shape s) (vp s (v .0)) len (low (v .0) c))
   effect-moved w (Made v mode (Read p)) c ps = same-moved K s
   effect-moved w (Made v mode (Write p x)) c ps =
-      setWord-moved K s (p .0) x (open-page K (enabledOn s) (closed K s) k s w (λ v l h. h) (λ p. refl) Access.Write writeBit (unfold needed in λ m mode. refl) read-of-write (v .0) mode (p .0) (low (v .0) c) (search) (search))
+      setWord-moved K s (p .0) x (open-page K (enabledOn s) (closed K s) k s w (λ v l h. h) (λ p. refl) Access.Write writeBit (unfold needed in λ m mode. refl) read-of-write (v .0) (modeOf mode) (p .0) (low (v .0) c) (search) (search))
   effect-moved w (Made v mode (Fetch p)) c ps = same-moved K s
-  effect-moved w (Made v mode (Protect p m)) c ps = setMask-moved K s (active s (v .0)) (p .0) m (low (v .0) c)
-  effect-moved w (Made v mode (Config g x)) c ps = let a : activeOf (vp s (v .0)) < K = low (v .0) c in configured-moved K s (g .0) x (let b : g .0 ≤ activeOf (vp s (v .0)) = ltb-false _ _ search in omega arith)
+  effect-moved w (Made v mode (Protect p m)) c ps = partition-moved K s (λ z x. setMask x (active s (v .0)) (p .0) m) (setMask-below K (partition s) (active s (v .0)) (p .0) m (low (v .0) c))
+  effect-moved w (Made v mode (Config g x)) c ps = let a : activeOf (vp s (v .0)) < K = low (v .0) c in
+      partition-moved K s (λ z y. configured z (pages s) y (g .0) x) (configured-below K (shape s) (pages s) (partition s) (g .0) x (let b : g .0 ≤ activeOf (vp s (v .0)) = ltb-false _ _ search in omega arith))
   effect-moved w (Made v mode (Secure l x)) c ps = onVp-moved K s (v .0) (λ z p. setSecure z p (activeOf p) (l .0) x) (setSecure-turned K (shape s) (vp s (v .0)) _ (l .0) x)
   effect-moved w (Made v mode Flush) c ps = same-moved K s
   effect-moved w (Made v mode (Rreg g r)) c ps = same-moved K s
@@ -359,7 +390,7 @@ module _ (K : ℕ) (k : 1 ≤ K) (s : State) where
 
 -- CR0 bit 0 stays set where it must be.
 pub modes-kept : (K : ℕ) (s t : State) → Moved K s t → wellModed s ≡ true → wellModed t ≡ true
-unfolding wellModed privateOf enabledOn enabledAt
-modes-kept K s t m h = every-all 4 _ (λ v i. every-all 4 _ (λ l j. implies-test (ltb 0 l && context (shape t) (vp t v) l .enabled) _ (λ q.
+unfolding wellModed wellModedVp enabledOn privateOf
+modes-kept K s t m h = every-all 4 _ (λ v i. every-all 4 _ (λ l j. implies-test (ltb 0 l && enabledAt (shape t) (vp t v) l) _ (λ q.
     let o : 0 < l = ltb-true 0 l (and-left (ltb 0 l) _ q) in
-    m .contexts v l .mode o (λ on. implied (ltb 0 l && context (shape s) (vp s v) l .enabled) _ (every-at 4 _ (every-at 4 _ h v i) l j) (rw (lt-ltb 0 l o) on)) (and-right (ltb 0 l) (context (shape t) (vp t v) l .enabled) q))))
+    m .contexts v l .mode o (λ on. implied (ltb 0 l && enabledAt (shape s) (vp s v) l) _ (every-at 4 _ (every-at 4 _ h v i) l j) (rw (lt-ltb 0 l o) on)) (and-right (ltb 0 l) (enabledAt (shape t) (vp t v) l) q))))

@@ -6,6 +6,7 @@ use mathlib.Core.List.{List}
 use Prim.Native.Nat.{ℕ, zero, suc, _/_, _%_, _≤_, _<_}
 use native.Mathlib.Omega.{arith}
 use lib.Dec.{leb, ltb, eqb}
+use lib.ListN.{length, length-set}
 use borrow.Author.Tests.{lt-ltb, ltb-true}
 use Rattle.word.specs.Field.{field, put, bit}
 use Rattle.word.proofs.FieldLaws.{take-put-below, take-put-above, bit-put-below}
@@ -24,7 +25,8 @@ use Rattle.model.specs.WellFormed.{wellEntered, wellFormedContext}
 use Rattle.model.proofs.Arrays.{number-cases}
 use Rattle.model.proofs.Bools.{and-left, and-right, both, implied, implies-test, hold, all-hold, cond-holds}
 use Rattle.model.proofs.Bounded.{every-at, every-all, highest-found}
-use Rattle.model.proofs.Moves.{context-cases}
+use Rattle.model.proofs.Four.{level-low}
+use Rattle.model.proofs.Moves.{context-cases, put-enabled, started-cases}
 use Rattle.model.proofs.Found.{enabled-level, nextUp-found, waiting-found, advanced-active, unlocked-active}
 
 -- A secure word that well-formedness allows, where the partition has MBEC for the setting level as `mbec` tells.
@@ -40,17 +42,17 @@ pub record Sound (l : ℕ) (on mbec : Bool) (up : ℕ → Bool) (enabled : Bool)
   pub low : eqb (field 0 16 (numberAt 4 pending 0)) 0 ≡ true
   pub idle : enabled ≡ false → every 4 (λ i. eqb (numberAt 4 pending i) 0) ≡ true
 
-abbrev pub SoundContext : ℕ → Bool → Bool → (ℕ → Bool) → Context → Type 0
-SoundContext l on mbec up c = Sound l on mbec up (c .enabled) (c .tpr) (c .pending) (c .secure) (c .control)
+abbrev pub SoundContext : ℕ → Bool → Bool → Bool → (ℕ → Bool) → Context → Type 0
+SoundContext l on enabled mbec up c = Sound l on mbec up enabled (c .tpr) (c .pending) (c .secure) (c .control)
 
 -- As the test that the definition makes, and back.
-pub sound-test : (l : ℕ) (on mbec : Bool) (up : ℕ → Bool) (c : Context) → SoundContext l on mbec up c → wellFormedContext l on mbec (up (c .control .from .0)) c ≡ true
+pub sound-test : (l : ℕ) (on enabled mbec : Bool) (up : ℕ → Bool) (c : Context) → SoundContext l on enabled mbec up c → wellFormedContext l on enabled mbec (up (c .control .from .0)) c ≡ true
 unfolding wellFormedContext
-sound-test l on mbec up c g = all-hold _ (
-  implies-test (c .enabled) on (g .part),
+sound-test l on enabled mbec up c g = all-hold _ (
+  implies-test enabled on (g .part),
   (
-    implies-test (ltb 0 l && c .enabled) _ (λ h. g .entry (ltb-true 0 l (and-left (ltb 0 l) (c .enabled) h)) (and-right (ltb 0 l) (c .enabled) h)),
-    (every-all l _ (g .words), (g .class, (g .low, (go (c .enabled) (g .idle), tt)))),
+    implies-test (ltb 0 l && enabled) _ (λ h. g .entry (ltb-true 0 l (and-left (ltb 0 l) enabled h)) (and-right (ltb 0 l) enabled h)),
+    (every-all l _ (g .words), (g .class, (g .low, (go enabled (g .idle), tt)))),
   ),
 )
   where
@@ -58,17 +60,17 @@ sound-test l on mbec up c g = all-hold _ (
     go true f = refl
     go false f = f refl
 
-pub test-sound : (l : ℕ) (on mbec : Bool) (up : ℕ → Bool) (c : Context) → wellFormedContext l on mbec (up (c .control .from .0)) c ≡ true → SoundContext l on mbec up c
+pub test-sound : (l : ℕ) (on enabled mbec : Bool) (up : ℕ → Bool) (c : Context) → wellFormedContext l on enabled mbec (up (c .control .from .0)) c ≡ true → SoundContext l on enabled mbec up c
 unfolding wellFormedContext
-test-sound l on mbec up c h =
+test-sound l on enabled mbec up c h =
     let t = hold _ h in
     record {
-      part = implied (c .enabled) on (t .0);
-      entry = λ o e. implied (ltb 0 l && c .enabled) _ (t .1 .0) (rw (lt-ltb 0 l o) e);
+      part = implied enabled on (t .0);
+      entry = λ o e. implied (ltb 0 l && enabled) _ (t .1 .0) (rw (lt-ltb 0 l o) e);
       words = every-at l _ (t .1 .1 .0);
       class = t .1 .1 .1 .0;
       low = t .1 .1 .1 .1 .0;
-      idle = go (c .enabled) (t .1 .1 .1 .1 .1 .0);
+      idle = go enabled (t .1 .1 .1 .1 .1 .0);
     }
   where
     go : (b : Bool) → (b || every 4 (λ i. eqb (numberAt 4 (c .pending) i) 0)) ≡ true → b ≡ false → every 4 (λ i. eqb (numberAt 4 (c .pending) i) 0) ≡ true
@@ -76,9 +78,10 @@ test-sound l on mbec up c h =
     go false q e = q
 
 -- More levels enabled, on the processor and for the partition.
-pub sound-more : (l : ℕ) (on on′ mbec mbec′ : Bool) (up up′ : ℕ → Bool) (c : Context) → (on ≡ true → on′ ≡ true) → (mbec ≡ true → mbec′ ≡ true) → ((i : ℕ) → up i ≡ true → up′ i ≡ true) → SoundContext l on mbec up c → SoundContext l on′ mbec′ up′ c
+pub sound-more : (l : ℕ) (on on′ enabled mbec mbec′ : Bool) (up up′ : ℕ → Bool) (c : Context) → (on ≡ true → on′ ≡ true) → (mbec ≡ true → mbec′ ≡ true) → ((i : ℕ) → up i ≡ true → up′ i ≡ true) →
+    SoundContext l on enabled mbec up c → SoundContext l on′ enabled mbec′ up′ c
 unfolding wellEntered
-sound-more l on on′ mbec mbec′ up up′ c f m u g = record {
+sound-more l on on′ enabled mbec mbec′ up up′ c f m u g = record {
   part = λ e. f (g .part e);
   entry = λ o e. let t = hold _ (g .entry o e) in all-hold _ (t .0, (u (c .control .from .0) (t .1 .0), t .1 .1));
   words = λ j h. more (numberAt 4 (c .secure) j) (g .words j h);
@@ -93,45 +96,34 @@ sound-more l on on′ mbec mbec′ up up′ c f m u g = record {
 -- One processor. `on` and `mbec` tell what the partition has of each level.
 module _ (z : Shape) (on mbec : ℕ → Bool) where
   pub record SoundVp (p : VirtualProcessor) : Type 0 where
+    pub four : length (p .contexts) ≡ 4
     pub base : enabledAt z p 0 ≡ true
     pub current : enabledAt z p (activeOf p) ≡ true
-    pub each : (l : ℕ) → l < 4 → SoundContext l (on l) (mbec l) (enabledAt z p) (context z p l)
+    pub each : (l : ℕ) → l < 4 → SoundContext l (on l) (enabledAt z p l) (mbec l) (enabledAt z p) (context z p l)
 
-  -- A context put in place of one that it leaves enabled.
-  put-more : (p : VirtualProcessor) (l : ℕ) (c : Context) → (enabledAt z p l ≡ true → c .enabled ≡ true) → (i : ℕ) → enabledAt z p i ≡ true → enabledAt z (putContext z p l c) i ≡ true
-  unfolding enabledAt
-  put-more p l c f i h = context-cases (λ d. d .enabled ≡ true) z p l i c h (λ e. f (rw e at h))
-
-  put-sound : (p : VirtualProcessor) (l : ℕ) (c : Context) → SoundVp p → (enabledAt z p l ≡ true → c .enabled ≡ true) → SoundContext l (on l) (mbec l) (enabledAt z p) c → SoundVp (putContext z p l c)
-  put-sound p l c g f h = record {
-    base = put-more p l c f 0 (g .base);
-    current = rw (active-put p l c) (put-more p l c f (activeOf p) (g .current));
-    each = λ j i. sound-more j (on j) (on j) (mbec j) (mbec j) (enabledAt z p) (enabledAt z (putContext z p l c)) (context z (putContext z p l c) j) (λ e. e) (λ e. e) (put-more p l c f)
-        (context-cases (λ d. SoundContext j (on j) (mbec j) (enabledAt z p) d) z p l j c (g .each j i) (λ e. rw e h));
+  -- A context put in place of another.
+  put-sound : (p : VirtualProcessor) (l : ℕ) (c : Context) → isLevel z l ≡ true → SoundVp p →
+      (SoundContext l (on l) (enabledAt z p l) (mbec l) (enabledAt z p) (context z p l) → SoundContext l (on l) (enabledAt z p l) (mbec l) (enabledAt z p) c) → SoundVp (putContext z p l c)
+  put-sound p l c i g f = unfold enabledAt activeOf putContext in record {
+    four = rw i (length-set (p .contexts) l c ∙ g .four);
+    base = g .base;
+    current = g .current;
+    each = λ j b. context-cases (λ d. SoundContext j (on j) (enabledAt z p j) (mbec j) (enabledAt z p) d) z p l j c (g .each j b) (λ e. rw e (f (g .each l (level-low z l i))));
   }
-    where
-      active-put : (p : VirtualProcessor) (l : ℕ) (c : Context) → activeOf (putContext z p l c) ≡ activeOf p
-      active-put p l c = unfold activeOf putContext in refl
-
-  -- An update of an enabled level's context, or of any that keeps it enabled or not.
-  alter-sound : (p : VirtualProcessor) (l : ℕ) (c : Context) → isLevel z l ≡ true → c .enabled ≡ context z p l .enabled → SoundVp p →
-      (SoundContext l (on l) (mbec l) (enabledAt z p) (context z p l) → SoundContext l (on l) (mbec l) (enabledAt z p) c) → SoundVp (putContext z p l c)
-  unfolding enabledAt isLevel
-  alter-sound p l c i e g f = put-sound p l c g (λ h. e ∙ h) (f (g .each l (ltb-true l 4 (and-right (leb l (top z)) (ltb l 4) i))))
 
   -- What does not touch a context.
   active-sound : (p : VirtualProcessor) (l : ℕ) → SoundVp p → enabledAt z p l ≡ true → SoundVp (withActive p l)
   unfolding enabledAt context activeOf
-  active-sound p l g h = record { base = g .base; current = h; each = g .each }
+  active-sound p l g h = record { four = g .four; base = g .base; current = h; each = g .each }
 
   setShared-sound : (p : VirtualProcessor) (r x : ℕ) → SoundVp p → SoundVp (setShared p r x)
   unfolding enabledAt context activeOf setShared
-  setShared-sound p r x g = record { base = g .base; current = g .current; each = g .each }
+  setShared-sound p r x g = record { four = g .four; base = g .base; current = g .current; each = g .each }
 
   -- Registers.
   setPrivate-sound : (p : VirtualProcessor) (l r x : ℕ) → isLevel z l ≡ true → SoundVp p → SoundVp (setPrivate z p l r x)
   unfolding setPrivate
-  setPrivate-sound p l r x i g = alter-sound p l _ i refl g (λ h. h)
+  setPrivate-sound p l r x i g = put-sound p l _ i g (λ h. h)
 
   pub setRegister-sound : (p : VirtualProcessor) (l r x : ℕ) → isLevel z l ≡ true → SoundVp p → SoundVp (setRegister z p l r x)
   unfolding setRegister
@@ -139,17 +131,17 @@ module _ (z : Shape) (on mbec : ℕ → Bool) where
 
   -- Entry.
   pub enter-sound : (p : VirtualProcessor) (l reason : ℕ) → eqb reason 0 ≡ false → leb reason 2 ≡ true → activeOf p < l → enabledAt z p l ≡ true → SoundVp p → SoundVp (enter z p l reason)
-  unfolding enter enabledAt
+  unfolding enter
   enter-sound p l reason a b c u g =
       let i = enabled-level z p l u in
-      active-sound _ l (alter-sound p l (withControl (context z p l) (recordOf p reason)) i refl g (λ h. record {
+      active-sound _ l (put-sound p l (withControl (context z p l) (recordOf p reason)) i g (λ h. record {
         part = h .part;
         entry = λ o e. unfold wellEntered activeOf in all-hold _ (lt-ltb (activeOf p) l c, (g .current, (rw a, (b, tt))));
         words = h .words;
         class = h .class;
         low = h .low;
         idle = h .idle;
-      })) (put-more p l _ (λ h. h) l u)
+      })) (rw (put-enabled z p l _ l) u)
 
   advanced-sound : (p : VirtualProcessor) (n : ℕ) → SoundVp p → SoundVp (advanced z p n)
   unfolding advanced
@@ -162,12 +154,12 @@ module _ (z : Shape) (on mbec : ℕ → Bool) where
       enter-sound (advanced z p n) (nextUp z p) byCall refl refl (rw (advanced-active z p n) (f .0)) (rw (advanced-enabled p n (nextUp z p)) (f .1)) (advanced-sound p n g)
     where
       advanced-enabled : (p : VirtualProcessor) (n l : ℕ) → enabledAt z (advanced z p n) l ≡ enabledAt z p l
-      advanced-enabled p n l = unfold enabledAt advanced setPrivate in context-cases (λ d. d .enabled ≡ context z p l .enabled) z p (activeOf p) l _ refl (λ e. ap (λ j. context z p j .enabled) (sym e))
+      advanced-enabled p n l = unfold advanced setPrivate in put-enabled z p (activeOf p) _ l
 
   -- Pending vectors, from 16 up, at an enabled level.
   pub setPending-sound : (p : VirtualProcessor) (l n x : ℕ) → 16 ≤ n → enabledAt z p l ≡ true → SoundVp p → SoundVp (setPending z p l n x)
-  unfolding setPending enabledAt
-  setPending-sound p l n x a u g = alter-sound p l _ (enabled-level z p l u) refl g (λ h. record {
+  unfolding setPending
+  setPending-sound p l n x a u g = put-sound p l _ (enabled-level z p l u) g (λ h. record {
     part = h .part;
     entry = h .entry;
     words = h .words;
@@ -188,7 +180,7 @@ module _ (z : Shape) (on mbec : ℕ → Bool) where
       sound-q = setPending-sound p g n 1 a u h
 
       still : enabledAt z q g ≡ true
-      still = unfold setPending enabledAt in put-more p g _ (λ h. h) g u
+      still = unfold setPending in rw (put-enabled z p g _ g) u
 
       go : (b : Bool) → ltb (activeOf p) g ≡ b → (c : Bool) → SoundVp (cond (b && c) (enter z q g byInterrupt) q)
       go true e true = enter-sound q g byInterrupt refl refl (unfold setPending putContext activeOf in ltb-true (activeOf p) g e) still sound-q
@@ -206,12 +198,12 @@ module _ (z : Shape) (on mbec : ℕ → Bool) where
 
   pub setTpr-sound : (p : VirtualProcessor) (l class : ℕ) → isLevel z l ≡ true → leb class 15 ≡ true → SoundVp p → SoundVp (setTpr z p l class)
   unfolding setTpr
-  setTpr-sound p l class i c g = alter-sound p l _ i refl g (λ h. record { part = h .part; entry = h .entry; words = h .words; class = c; low = h .low; idle = h .idle })
+  setTpr-sound p l class i c g = put-sound p l _ i g (λ h. record { part = h .part; entry = h .entry; words = h .words; class = c; low = h .low; idle = h .idle })
 
   -- Secure words.
   words-sound : (p : VirtualProcessor) (t : ℕ) (ws : List ℕ) → isLevel z t ≡ true → ((j : ℕ) → j < t → allowed (mbec t) (numberAt 4 (context z p t .secure) j) ≡ true → allowed (mbec t) (numberAt 4 ws j) ≡ true) → SoundVp p →
       SoundVp (putContext z p t (withSecure (context z p t) ws))
-  words-sound p t ws i f g = alter-sound p t _ i refl g (λ h. record { part = h .part; entry = h .entry; words = λ j b. f j b (h .words j b); class = h .class; low = h .low; idle = h .idle })
+  words-sound p t ws i f g = put-sound p t _ i g (λ h. record { part = h .part; entry = h .entry; words = λ j b. f j b (h .words j b); class = h .class; low = h .low; idle = h .idle })
 
   pub setSecure-sound : (p : VirtualProcessor) (t l w : ℕ) → isLevel z t ≡ true → allowed (mbec t) w ≡ true → SoundVp p → SoundVp (setSecure z p t l w)
   unfolding setSecure
@@ -244,8 +236,8 @@ module _ (z : Shape) (on mbec : ℕ → Bool) where
   left-sound : (p : VirtualProcessor) → 0 < activeOf p → SoundVp p → SoundVp (left z p)
   unfolding left
   left-sound p o g =
-      let i : activeOf p < 4 = unfold isLevel in ltb-true (activeOf p) 4 (and-right (leb (activeOf p) (top z)) (ltb (activeOf p) 4) (enabled-level z p (activeOf p) (g .current))) in
-      let entered = g .each (activeOf p) i .entry o (unfold enabledAt in g .current) in
+      let i : activeOf p < 4 = level-low z (activeOf p) (enabled-level z p (activeOf p) (g .current)) in
+      let entered = g .each (activeOf p) i .entry o (g .current) in
       active-sound (restored z p) _ (restored-sound p g) (rw (restored-enabled p (context z p (activeOf p) .control .from .0)) (unfold wellEntered in hold _ entered .1 .0))
 
   reentered-sound : (p : VirtualProcessor) → SoundVp p → SoundVp (reentered z p)
@@ -271,14 +263,24 @@ module _ (z : Shape) (on mbec : ℕ → Bool) where
 
   -- A level that is first enabled, where the partition has it enabled.
   pub started-sound : (p : VirtualProcessor) (t ip sp cr : ℕ) → isLevel z t ≡ true → 0 < t → on t ≡ true → SoundVp p → SoundVp (started z p t ip sp cr)
-  unfolding started isLevel
-  started-sound p t ip sp cr i o e g =
-      let h = g .each t (ltb-true t 4 (and-right (leb t (top z)) (ltb t 4) i)) in
-      put-sound p t (startedContext (context z p t) ip sp cr) g (λ d. refl) (record {
-        part = λ d. e;
-        entry = λ d q. unfold wellEntered in all-hold _ (lt-ltb 0 t o, (g .base, (refl, (refl, tt))));
-        words = h .words;
-        class = refl;
-        low = unfold numberAt in refl;
-        idle = λ d. absurd (true≢false d);
-      })
+  started-sound p t ip sp cr i o e g = record {
+    four = unfold started putContext in rw i (length-set (p .contexts) t _ ∙ g .four);
+    base = more 0 (g .base);
+    current = unfold activeOf started putContext in more (activeOf p) (g .current);
+    each = λ j b. started-cases 0 z p t ip sp cr i (g .four) (λ l up c. l < 4 → SoundContext l (on l) up (mbec l) (enabledAt z q) c)
+        (λ b. let h = g .each t b in record {
+          part = λ d. e;
+          entry = λ d q. unfold wellEntered in all-hold _ (lt-ltb 0 t o, (more 0 (g .base), (refl, (refl, tt))));
+          words = h .words;
+          class = refl;
+          low = unfold numberAt in refl;
+          idle = λ d. absurd (true≢false d);
+        })
+        (λ l n b. sound-more l (on l) (on l) (enabledAt z p l) (mbec l) (mbec l) (enabledAt z p) (enabledAt z q) (context z p l) (λ e. e) (λ e. e) more (g .each l b)) j b;
+  }
+    where
+      q : VirtualProcessor
+      q = started z p t ip sp cr
+
+      more : (l : ℕ) → enabledAt z p l ≡ true → enabledAt z (started z p t ip sp cr) l ≡ true
+      more l h = started-cases 0 z p t ip sp cr i (g .four) (λ j up c. enabledAt z p j ≡ true → up ≡ true) (λ h. refl) (λ j n h. h) l h

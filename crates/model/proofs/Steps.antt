@@ -10,36 +10,38 @@ use lib.Dec.{leb, ltb, eqb}
 use borrow.Author.Tests.{lt-ltb, le-ltb, lt-leb, ne-eqb, ltb-true, ltb-false, leb-true, leb-false, eqb-true, eqb-false, not-false}
 use Rattle.word.specs.Field.{bit}
 use Rattle.model.specs.declared.answer.Answer.the-variants.{Done, Refused, Intercept}
-use Rattle.model.specs.declared.answer.Refusal.the-variants.{Malformed}
+use Rattle.model.specs.declared.answer.Refusal.{Refusal}
 use Rattle.model.specs.declared.event.Event.{Event}
 use Rattle.model.specs.declared.event.Action.the-variants.{Enpart, Envp, Call, Ret, Read, Write, Fetch, Protect, Config, Secure, Flush, Rreg, Wreg, Tpr, Ack, Pstat, Vstat, Caps}
 use Rattle.model.specs.declared.event.Event.the-variants.{Made, Int}
 use Rattle.model.specs.declared.machine.Shape.{Shape}
 use Rattle.model.specs.declared.machine.VirtualProcessor.{VirtualProcessor}
 use Rattle.model.specs.declared.quantity.Access.{Access}
+use Rattle.model.specs.declared.quantity.Mode.{Mode}
 use Rattle.model.specs.Arrays.{numberAt}
 use Rattle.model.specs.Bounded.{every}
 use Rattle.model.specs.Entry.{enter, highestReady, nextUp, called, returned, interrupted, started, acknowledged, byInterrupt}
-use Rattle.model.specs.Events.{own, locked}
+use Rattle.model.specs.Events.{own, configured, locked}
 use Rattle.model.specs.Masks.{validMask, readBit, writeBit, secureReservedSet, protects}
-use Rattle.model.specs.Memory.{needed, mbecOn, denies, denied, receiver, hostDenies}
+use Rattle.model.specs.Memory.{needed, mbecOn, deniesIn, denies, denied, receiver, hostDeniesBy, hostDenies}
 use Rattle.model.specs.Registers.{cr0, rflags, rcx, protectedBit, isPrivate, privateOf, sharedOf}
-use Rattle.model.specs.State.{State, level, processors, shape, pages, isProcessor, vp, context, partitionLevel, activeOf, active, enabledAt, enabledOn, maskOf, hostMask, secureOf, mbecBit}
-use Rattle.model.specs.Step.{Outcome, rule, ruleOf, maker, intercepted, nextFor, answered, ruled, step}
-use Rattle.model.specs.Updates.{withEnabled, setRegister, setTpr, setSecure}
-use Rattle.model.specs.WellFormed.{wellSized, wellFormedContext, wellFormedVp, wellFormedLevel, wellFormedParts, wellModed, wellFormed}
-use Rattle.model.proofs.Answers.{Passed, Taken, condition-cases}
-use Rattle.model.proofs.Bools.{and-left, and-right, and-not, not-and, implied, implies-test, and-cong}
+use Rattle.model.specs.State.{State, level, processors, shape, pages, partition, isProcessor, vp, context, activeOf, active, enabledAt, enabledOn, maskOf, hostMask, secureOf, mbecBit}
+use Rattle.model.specs.Step.{Outcome, rule, ruleOf, maker, modeOf, intercepted, nextFor, ruled, step}
+use Rattle.model.specs.Updates.{enableLevel, setMask, setRegister, setTpr, setSecure}
+use Rattle.model.specs.WellFormed.{wellSized, wellFormedContext, wellFormedVp, wellFormedLevel, wellFormedParts, wellModedVp, wellModed, wellFormed}
+use Rattle.model.proofs.Answers.{Passed, Taken, given, condition-cases}
+use Rattle.model.proofs.Bools.{and-left, and-right, and-not, not-and, implied, implies-test, and-cong, positive}
 use Rattle.model.proofs.Bounded.{every-at, every-all, every-cong, any-at, any-none}
 use Rattle.model.specs.Hide.{closed, hides, hideContext, hideVp, hidePartition, hide}
 use Rattle.model.specs.Hide.{quietMaker}
 use Rattle.model.specs.MapAt.{mapAt}
 use Rattle.model.proofs.Found.{enabled-level}
 use Rattle.model.proofs.Formed.{is-processor, is-level, is-page, active-level, host-valid, mask-valid}
+use Rattle.model.proofs.LevelSets.{in-hidden}
 use Rattle.model.proofs.Visible
 use Rattle.model.proofs.Visible.{hidden, context-hide, enabled-same, tpr-same, pending-same, secure-same, control-same, highest-same}
 use Rattle.model.proofs.Whole
-use Rattle.model.proofs.Whole.{processors-same, shape-same, maxLevel-same, pages-same, processor-same, host-same, lent-same, vp-hide, onVp-hide, onLevel-hide, active-hide, enabledOn-hide, partition-hide, enabledFor-hide, mbecFor-hide, config-hide, protects-hide, mask-hide, word-hide, setWord-hide}
+use Rattle.model.proofs.Whole.{processors-same, shape-same, maxLevel-same, pages-same, processor-same, host-same, lent-same, vp-hide, onVp-hide, onPartition-hide, active-hide, enabledOn-hide, partition-hide, enabledFor-hide, mbecFor-hide, config-hide, protects-hide, mask-hide, word-hide, setWord-hide}
 
 ruleset Same = (processors-same, shape-same, maxLevel-same, pages-same, active-hide, enabledOn-hide, enabledFor-hide, mbecFor-hide, config-hide, protects-hide, mask-hide)
 
@@ -48,23 +50,20 @@ module _ (K : ℕ) (E : ℕ → Bool) (z : Shape) (p : VirtualProcessor) where
   secure-number : (l j : ℕ) → j < l → numberAt 4 (context z (hideVp K E z p) l .secure) j ≡ numberAt 4 (context z p l .secure) j
   secure-number l j h = unfold secureOf in (rw (lt-ltb j l h) at (secure-same K E z p l j))
 
-  context-formed : (l : ℕ) (on mbec : Bool) →
-      wellFormedContext l on mbec (enabledAt z (hideVp K E z p) (context z (hideVp K E z p) l .control .from .0)) (context z (hideVp K E z p) l)
-      ≡ wellFormedContext l on mbec (enabledAt z p (context z p l .control .from .0)) (context z p l)
+  abbrev formedIn : VirtualProcessor → ℕ → Bool → Bool → Bool
+  formedIn q l on mbec = wellFormedContext l on (enabledAt z q l) mbec (enabledAt z q (context z q l .control .from .0)) (context z q l)
+
+  context-formed : (l : ℕ) (on mbec : Bool) → formedIn (hideVp K E z p) l on mbec ≡ formedIn p l on mbec
   unfolding wellFormedContext
   context-formed l on mbec = go l
     where
-      enabled : (l : ℕ) → context z (hideVp K E z p) l .enabled ≡ context z p l .enabled
-      enabled l = unfold enabledAt in enabled-same K E z p l
-
       words : (l : ℕ) → every l (λ j. not (secureReservedSet (numberAt 4 (context z (hideVp K E z p) l .secure) j)) && (not (bit (numberAt 4 (context z (hideVp K E z p) l .secure) j) mbecBit) || mbec))
           ≡ every l (λ j. not (secureReservedSet (numberAt 4 (context z p l .secure) j)) && (not (bit (numberAt 4 (context z p l .secure) j) mbecBit) || mbec))
       words l = every-cong l _ _ (λ j h. rw (secure-number l j h))
 
-      go : (l : ℕ) → wellFormedContext l on mbec (enabledAt z (hideVp K E z p) (context z (hideVp K E z p) l .control .from .0)) (context z (hideVp K E z p) l)
-          ≡ wellFormedContext l on mbec (enabledAt z p (context z p l .control .from .0)) (context z p l)
-      go zero = simp (enabled, words, tpr-same, pending-same)
-      go (suc l) = simp (enabled, words, tpr-same, pending-same, control-same K E z p (suc l) (omega arith), enabled-same)
+      go : (l : ℕ) → formedIn (hideVp K E z p) l on mbec ≡ formedIn p l on mbec
+      go zero = simp (enabled-same, words, tpr-same, pending-same)
+      go (suc l) = simp (enabled-same, words, tpr-same, pending-same, control-same K E z p (suc l) (omega arith))
 
 -- CR0 bit 0 stays set where an enabled level's registers are hidden.
 cr0-kept : (z : Shape) (h : Bool) (xs : List ℕ) → bit (numberAt 13 xs cr0) protectedBit ≡ true → bit (numberAt 13 (mapAt (λ r x. cond (isPrivate z r) (cond h (cond (eqb r cr0 && true) 1 0) x) 0) xs) cr0) protectedBit ≡ true
@@ -80,6 +79,12 @@ cr0-hide : (K : ℕ) (E : ℕ → Bool) (z : Shape) (p : VirtualProcessor) (l : 
 unfolding privateOf enabledAt hidden hideContext
 cr0-hide K E z p l on h = rw (context-hide, on) (cr0-kept z (hides K (E l) l true) (context z p l .registers) h)
 
+vp-modes : (K : ℕ) (E : ℕ → Bool) (z : Shape) (p : VirtualProcessor) → wellModedVp z p ≡ true → wellModedVp z (hideVp K E z p) ≡ true
+unfolding wellModedVp
+vp-modes K E z p h = every-all 4 _ (λ l j. implies-test (ltb 0 l && enabledAt z (hideVp K E z p) l) _ (λ q.
+    let on : (ltb 0 l && enabledAt z p l) ≡ true = rw enabled-same at q in
+    cr0-hide K E z p l (and-right (ltb 0 l) (enabledAt z p l) on) (implied (ltb 0 l && enabledAt z p l) _ (every-at 4 _ h l j) on)))
+
 -- Read comes with Write.
 pub read-of-write : (m : ℕ) → validMask m ≡ true → bit m writeBit ≡ true → bit m readBit ≡ true
 read-of-write m v h = go (eqb m 0) refl (and-right (leb m 15) (eqb m 0 || bit m readBit) v)
@@ -94,16 +99,13 @@ module _ (K : ℕ) (E : ℕ → ℕ → Bool) (H : ℕ → Bool) where
   unfolding wellSized
   sized-hide s = simp (processors-same, maxLevel-same, pages-same, lent-same)
 
-  vp-formed : (s : State) (v : ℕ) → wellFormedVp (hide K E H s) (vp (hide K E H s) v) ≡ wellFormedVp s (vp s v)
-  unfolding wellFormedVp
-  vp-formed s v = simp (shape-same, vp-hide, enabledFor-hide, mbecFor-hide, context-formed) (simp (Visible.active-same, enabled-same))
+  vp-formed : (s : State) (v : ℕ) → wellFormedVp (shape (hide K E H s)) (partition (hide K E H s)) (vp (hide K E H s) v) ≡ wellFormedVp (shape s) (partition s) (vp s v)
+  unfolding wellFormedVp hidePartition
+  vp-formed s v = simp (shape-same, vp-hide, partition-hide, in-hidden, context-formed, Visible.contexts-same) (simp (Visible.active-same, enabled-same))
 
   level-formed : (s : State) (i : ℕ) → wellFormedLevel (hide K E H s) (suc i) ≡ wellFormedLevel s (suc i)
   unfolding wellFormedLevel
-  level-formed s i = simp (partition-above s (suc i) (omega arith), mask-hide)
-    where
-      partition-above : (s : State) (l : ℕ) → 0 < l → partitionLevel (hide K E H s) l ≡ partitionLevel s l
-      partition-above s l h = partition-hide K E H s l ∙ unfold hidePartition in (rw (ne-eqb l 0 (λ e. omega arith)))
+  level-formed s i = simp (config-hide, enabledFor-hide, mbecFor-hide, mask-hide)
 
   parts-hide : (s : State) → wellFormedParts (hide K E H s) ≡ wellFormedParts s
   unfolding wellFormedParts
@@ -115,10 +117,7 @@ module _ (K : ℕ) (E : ℕ → ℕ → Bool) (H : ℕ → Bool) where
 
   modes-hide : (s : State) → wellModed s ≡ true → wellModed (hide K E H s) ≡ true
   unfolding wellModed
-  modes-hide s h = every-all 4 _ (λ v i. every-all 4 _ (λ l j. implies-test (ltb 0 l && enabledOn (hide K E H s) v l) _ (λ q.
-      let on : (ltb 0 l && enabledOn s v l) ≡ true = rw enabledOn-hide at q in
-      simp (shape-same, vp-hide) (cr0-hide K (E v) (shape s) (vp s v) l (enabled-at s v l (and-right (ltb 0 l) (enabledOn s v l) on))
-      (implied (ltb 0 l && enabledOn s v l) _ (every-at 4 _ (every-at 4 _ h v i) l j) on)))))
+  modes-hide s h = every-all 4 _ (λ v i. rw (shape-same, vp-hide) (vp-modes K (E v) (shape s) (vp s v) (every-at 4 _ h v i)))
 
   formed-hide : (s : State) → wellModed s ≡ true → wellFormed (hide K E H s) ≡ wellFormed s
   unfolding wellFormed
@@ -129,15 +128,15 @@ module _ (K : ℕ) (E : ℕ → ℕ → Bool) (H : ℕ → Bool) where
   unfolding mbecOn
   needs-same s v t l = simp (shape-same, vp-hide, secure-same)
 
-  denies-same : (s : State) (v mode p : ℕ) (a : Access) (t : ℕ) → denies (hide K E H s) v mode p a t ≡ denies s v mode p a t
+  denies-same : (s : State) (v : ℕ) (mode : Mode) (p : ℕ) (a : Access) (t : ℕ) → denies (hide K E H s) v mode p a t ≡ denies s v mode p a t
   unfolding denies
-  denies-same s v mode p a t = simp (active-hide, protects-hide, mask-hide, needs-same)
+  denies-same s v mode p a t = rw (shape-same, pages-same, active-hide, needs-same, partition-hide) (Whole.denies-hide K E H s (partition s) (active s v) mode p a t (mbecOn s v t (active s v)))
 
-  denied-same : (s : State) (v mode p : ℕ) (a : Access) → denied (hide K E H s) v mode p a ≡ denied s v mode p a
+  denied-same : (s : State) (v : ℕ) (mode : Mode) (p : ℕ) (a : Access) → denied (hide K E H s) v mode p a ≡ denied s v mode p a
   unfolding denied
   denied-same s v mode p a = simp denies-same
 
-  receiver-same : (s : State) (v mode p : ℕ) (a : Access) → receiver (hide K E H s) v mode p a ≡ receiver s v mode p a
+  receiver-same : (s : State) (v : ℕ) (mode : Mode) (p : ℕ) (a : Access) → receiver (hide K E H s) v mode p a ≡ receiver s v mode p a
   unfolding receiver
   receiver-same s v mode p a = simp (denies-same, enabledOn-hide)
 
@@ -199,11 +198,11 @@ module _ (K : ℕ) (E : ℕ → ℕ → Bool) (H : ℕ → Bool) where
   -- Done events, at a well-formed state. The levels enabled at the start still are, and H tells the pages that are closed now.
   module _ (k : 1 ≤ K) (s : State) (w : wellFormed s ≡ true) (grown : (v l : ℕ) → E v l ≡ true → enabledOn s v l ≡ true) (pages-closed : (p : ℕ) → H p ≡ closed K s p) where
     -- A read or write that is done needs bit b of each mask, and a valid mask with bit b has Read: the page is open.
-    pub open-page : (a : Access) (b : ℕ) → ((m : Bool) (mode : ℕ) → needed m mode a ≡ b) → ((m : ℕ) → validMask m ≡ true → bit m b ≡ true → bit m readBit ≡ true) → (v mode p : ℕ) → active s v < K →
+    pub open-page : (a : Access) (b : ℕ) → ((m : Bool) (mode : Mode) → needed m mode a ≡ b) → ((m : ℕ) → validMask m ≡ true → bit m b ≡ true → bit m readBit ≡ true) → (v : ℕ) (mode : Mode) (p : ℕ) → active s v < K →
         denied s v mode p a ≡ false → hostDenies s p a ≡ false → H p ≡ false
-    unfolding closed denied denies hostDenies
+    unfolding closed denied denies deniesIn hostDenies hostDeniesBy maskOf protects
     open-page a b needs weak v mode p h d e =
-        pages-closed p ∙ rw (weak (hostMask s p) (host-valid s w p) (rw needs at (not-false (bit (hostMask s p) (needed false 0 a)) e)))
+        pages-closed p ∙ rw (weak (hostMask s p) (host-valid s w p) (rw needs at (not-false (bit (hostMask s p) (needed false Mode.Kernel a)) e)))
         (any-none 4 (λ t. leb K t && protects s t && not (bit (maskOf s t p) readBit)) (λ t i. not-and (leb K t && protects s t) (not (bit (maskOf s t p) readBit)) (λ q.
         let above : K ≤ t = leb-true K t (and-left (leb K t) (protects s t) q) in
         let allows : (ltb (active s v) t && protects s t && not (bit (maskOf s t p) b)) ≡ false = rw needs at (any-at 4 (λ t. denies s v mode p a t) d t i) in
@@ -219,12 +218,9 @@ module _ (K : ℕ) (E : ℕ → ℕ → Bool) (H : ℕ → Bool) where
         go true e = sym (grown v l e) ∙ h
         go false e = refl
 
-    positive : (n : ℕ) → eqb n 0 ≡ false → 0 < n
-    positive n h = let d : (n ≡ 0 → ⊥) = eqb-false n 0 h in omega arith
-
     effect-hide : (e : Event) → quietMaker K s (maker e) ≡ true → Passed (rule s e .refusals) → rule (hide K E H s) e .effect ≡ hide K E H (rule s e .effect)
     unfolding rule ruleOf maker active
-    effect-hide (Made v mode (Enpart t mbec)) c ps = onLevel-hide K E H s (t .0) (λ x. withEnabled x (eqb mbec 1)) (is-level s w (t .0) search) (unfold hidePartition in refl)
+    effect-hide (Made v mode (Enpart t mbec)) c ps = onPartition-hide K E H s (λ z x. enableLevel z x (t .0) (eqb mbec 1)) (Whole.enableLevel-hide K E H s (partition s) (t .0) (eqb mbec 1) (is-level s w (t .0) search))
     effect-hide (Made v mode (Envp u t ip sp cr)) c ps =
         onVp-hide K E H s (u .0) (λ z p. started z p (t .0) ip sp cr) (is-processor s w (u .0) search) (Visible.started-hide K (E (u .0)) (shape s) (vp s (u .0)) (t .0) ip sp cr (is-level s w (t .0) search) (not-grown (u .0) (t .0) search))
     effect-hide (Made v mode (Call len)) c ps =
@@ -235,11 +231,12 @@ module _ (K : ℕ) (E : ℕ → ℕ → Bool) (H : ℕ → Bool) where
         let above : 0 < activeOf (vp s (v .0)) = positive (activeOf (vp s (v .0))) search in
         onVp-hide K E H s (v .0) (λ z p. returned z p len) inside (Visible.returned-hide K (E (v .0)) (shape s) (vp s (v .0)) len (maker-low k s (v .0) c) (active-level s w (v .0) inside) above)
     effect-hide (Made v mode (Read p)) c ps = refl
-    effect-hide (Made v mode (Write p x)) c ps = setWord-hide K E H s (p .0) x (open-page Access.Write writeBit (unfold needed in λ m mode. refl) read-of-write (v .0) mode (p .0) (maker-low k s (v .0) c) (search) (search))
+    effect-hide (Made v mode (Write p x)) c ps = setWord-hide K E H s (p .0) x (open-page Access.Write writeBit (unfold needed in λ m mode. refl) read-of-write (v .0) (modeOf mode) (p .0) (maker-low k s (v .0) c) (search) (search))
     effect-hide (Made v mode (Fetch p)) c ps = refl
     effect-hide (Made v mode (Protect p m)) c ps =
-        rw active-hide (Whole.setMask-hide K E H s (active s (v .0)) (p .0) m (positive _ search) (active-level s w (v .0) (is-processor s w (v .0) search)) (is-page s w (p .0) search))
-    effect-hide (Made v mode (Config g x)) c ps = Whole.configured-hide K E H s (g .0) x (positive _ search) (is-level s w (g .0) search)
+        rw active-hide (onPartition-hide K E H s (λ z x. setMask x (active s (v .0)) (p .0) m) (Whole.setMask-hide K E H s (partition s) (active s (v .0)) (p .0) m (positive _ search) (active-level s w (v .0) (is-processor s w (v .0) search)) (is-page s w (p .0) search)))
+    effect-hide (Made v mode (Config g x)) c ps =
+        rw pages-same (onPartition-hide K E H s (λ z y. configured z (pages s) y (g .0) x) (Whole.configured-hide K E H s (partition s) (g .0) x (positive _ search) (is-level s w (g .0) search)))
     effect-hide (Made v mode (Secure l x)) c ps =
         let inside = is-processor s w (v .0) search in
         onVp-hide K E H s (v .0) (λ z p. setSecure z p (activeOf p) (l .0) x) inside (rw Visible.active-same (Visible.setSecure-hide K (E (v .0)) (shape s) (vp s (v .0)) (activeOf (vp s (v .0))) (l .0) x (active-level s w (v .0) inside) (leb-false _ _ search)))
@@ -270,7 +267,7 @@ module _ (K : ℕ) (E : ℕ → ℕ → Bool) (H : ℕ → Bool) where
         let inside = is-processor s w (v .0) search in
         let above : 0 < activeOf (vp s (v .0)) = positive (activeOf (vp s (v .0))) search in
         rw (shape-same, vp-hide, Visible.returned-hide K (E (v .0)) (shape s) (vp s (v .0)) len (maker-low k s (v .0) c) (active-level s w (v .0) inside) above) (Visible.active-same K (E (v .0)) (shape s) _)
-    value-same (Made v mode (Read p)) c ps = word-hide K E H s (p .0) (open-page Access.Read readBit (unfold needed in λ m mode. refl) (λ m v h. h) (v .0) mode (p .0) (maker-low k s (v .0) c) (search) (search))
+    value-same (Made v mode (Read p)) c ps = word-hide K E H s (p .0) (open-page Access.Read readBit (unfold needed in λ m mode. refl) (λ m v h. h) (v .0) (modeOf mode) (p .0) (maker-low k s (v .0) c) (search) (search))
     value-same (Made v mode (Write p x)) c ps = refl
     value-same (Made v mode (Fetch p)) c ps = refl
     value-same (Made v mode (Protect p m)) c ps = refl
@@ -297,7 +294,7 @@ module _ (K : ℕ) (E : ℕ → ℕ → Bool) (H : ℕ → Bool) where
     ruled-hide : (e : Event) → quietMaker K s (maker e) ≡ true → ruled (hide K E H s) e ≡ hideOutcome (ruled s e)
     unfolding ruled nextFor
     ruled-hide e c = rw (refusals-same k s e c)
-        (condition-cases s e (λ g. answered (g (Done (rule (hide K E H s) e .value))) (hide K E H s) e ≡ hideOutcome (answered (g (Done (rule s e .value))) s e))
+        (condition-cases s e (λ g. given (hide K E H s) e (g (Done (rule (hide K E H s) e .value))) ≡ hideOutcome (given s e (g (Done (rule s e .value)))))
         (λ ps i. record { answer = Done (value-same e c ps i); next = effect-hide e c ps i })
         (λ r. refl)
         (λ l t i. record { answer = Intercept (level l); next = intercepted-hide e l t i }))
@@ -309,9 +306,12 @@ module _ (K : ℕ) (E : ℕ → ℕ → Bool) (H : ℕ → Bool) where
     pub pages : (p : ℕ) → H p ≡ closed K s p
 
   pub step-hide : 1 ≤ K → (s : State) → Reached s → (e : Event) → quietMaker K s (maker e) ≡ true → step (hide K E H s) e ≡ hideOutcome (step s e)
-  unfolding step nextFor
+  unfolding step
   step-hide k s r e c = rw (formed-hide s (r .modes)) (go (wellFormed s) refl)
     where
-      go : (b : Bool) → wellFormed s ≡ b → cond b (ruled (hide K E H s) e) (answered (Refused Malformed) (hide K E H s) e) ≡ hideOutcome (cond b (ruled s e) (answered (Refused Malformed) s e))
+      refused : State → Outcome
+      refused t = record { answer = Refused Refusal.NotWellFormed; next = t }
+
+      go : (b : Bool) → wellFormed s ≡ b → cond b (ruled (hide K E H s) e) (refused (hide K E H s)) ≡ hideOutcome (cond b (ruled s e) (refused s))
       go true w = ruled-hide k s w (r .grown) (r .pages) e c
       go false w = refl

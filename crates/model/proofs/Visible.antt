@@ -6,62 +6,65 @@ use mathlib.Core.List.{List}
 use Prim.Native.Nat.{ℕ, zero, suc, _-_, _/_, _%_, _≤_, _<_}
 use native.Mathlib.Omega.{arith}
 use lib.Dec.{ltb, eqb}
+use lib.ListN.{length}
 use borrow.Author.Tests.{lt-ltb, lt-leb, ne-eqb, ltb-true, ltb-false, eqb-false}
 use Rattle.word.specs.Field.{put}
 use Rattle.model.specs.declared.machine.Context.{Context}
 use Rattle.model.specs.declared.machine.Shape.{Shape}
 use Rattle.model.specs.declared.machine.VirtualProcessor.{VirtualProcessor}
+use Rattle.model.specs.declared.set.LevelSet.{LevelSet}
 use Rattle.model.specs.Arrays.{numberAt, stored}
 use Rattle.model.specs.Entry.{recordOf, enter, isReady, highestReady, nextUp, advanced, called, restored, waiting, reentered, left, returned, enters, interrupted, startedContext, started, acknowledged, byCall, byInterrupt}
 use Rattle.model.specs.Registers.{rip, cr0, dr6, rax, rcx, isPrivate, privateOf, sharedOf, registerOf}
-use Rattle.model.specs.State.{noContext, pastContext, isLevel, context, activeOf, enabledAt, secureOf, isPending, lockBit}
-use Rattle.model.specs.Updates.{withRegisters, withTpr, withPending, withSecure, withControl, withActive, putContext, setShared, setPrivate, setRegister, setTpr, setPending, setSecure, cleared, unlocked}
+use Rattle.model.specs.State.{noContext, pastContext, isLevel, inSet, context, activeOf, enabledAt, secureOf, isPending, lockBit}
+use Rattle.model.specs.Updates.{withRegisters, withTpr, withPending, withSecure, withControl, withActive, putContext, setShared, setPrivate, setRegister, setTpr, setPending, setSecure, cleared, unlocked, withLevel}
 use Rattle.model.proofs.Bools.{and-not, or-left, or-right, cond-same, cond-ap, cond-holds}
+use Rattle.model.proofs.LevelSets.{in-hidden, in-here, in-other, with-hidden}
 use Rattle.model.proofs.Found.{enabled-level, nextUp-found, waiting-found, advanced-active, unlocked-active}
 use Rattle.model.specs.Hide.{hides, hideContext, hideLevel, hideVp}
 use Rattle.model.specs.MapAt.{mapAt}
-use Rattle.model.proofs.Maps.{mapAt-nil, getD-mapAt, mapAt-set, mapAt-stored, mapAt-replicate, number-mapAt}
+use Rattle.model.proofs.Maps.{mapAt-nil, length-mapAt, getD-mapAt, mapAt-set, mapAt-set-other, mapAt-stored, mapAt-replicate, number-mapAt}
 
 -- The empty records have nothing to hide.
 register-none : (z : Shape) (h : Bool) (r : ℕ) → _≡_ {A = ℕ} (cond (isPrivate z r) (cond h (cond (eqb r cr0 && false) 1 0) 0) 0) 0
 register-none z h r = simp (and-false, cond-same)
 
-pub hideContext-none : (z : Shape) (h : Bool) (l : ℕ) → hideContext z h l noContext ≡ noContext
+pub hideContext-none : (z : Shape) (h : Bool) (l : ℕ) → hideContext z h false l noContext ≡ noContext
 unfolding hideContext
 hideContext-none z h l =
     rw (mapAt-replicate {A = ℕ} (λ r x. cond (isPrivate z r) (cond h (cond (eqb r cr0 && false) 1 0) x) 0) 13 0 (register-none z h), mapAt-replicate {A = ℕ} (λ j w. cond (ltb j l) w 0) 4 0 (λ j. cond-same (ltb j l) 0), cond-same)
 
-hideContext-past : (z : Shape) (h : Bool) (l : ℕ) → hideContext z h l pastContext ≡ pastContext
+hideContext-past : (z : Shape) (h on : Bool) (l : ℕ) → hideContext z h on l pastContext ≡ pastContext
 unfolding hideContext
-hideContext-past z h l = simp (mapAt-nil, cond-same)
+hideContext-past z h on l = simp (mapAt-nil, cond-same)
 
 module _ (K : ℕ) (E : ℕ → Bool) (z : Shape) where
   -- The context of level l as the hidden processor has it.
-  unfoldable pub hidden : ℕ → Context → Context
-  hidden l c = hideContext z (hides K (E l) l (c .enabled)) l c
+  unfoldable pub hidden : LevelSet → ℕ → Context → Context
+  hidden x l c = let on = inSet z x l in hideContext z (hides K (E l) l on) on l c
 
-  pub context-hide : (p : VirtualProcessor) (l : ℕ) → context z (hideVp K E z p) l ≡ hidden l (context z p l)
-  unfolding context hideVp hidden hideLevel
+  pub context-hide : (p : VirtualProcessor) (l : ℕ) → context z (hideVp K E z p) l ≡ hidden (p .enabled) l (context z p l)
+  unfolding context hideVp hidden hideLevel inSet
   context-hide p l = go (isLevel z l) refl
     where
-      go : (b : Bool) → isLevel z l ≡ b → context z (hideVp K E z p) l ≡ hidden l (context z p l)
-      go true e = rw (e, getD-mapAt (hideLevel K E z) (p .contexts) l pastContext (rw e (hideContext-past z _ l)), e)
+      go : (b : Bool) → isLevel z l ≡ b → context z (hideVp K E z p) l ≡ hidden (p .enabled) l (context z p l)
+      go true e = rw (e, getD-mapAt (hideLevel K E z (p .enabled)) (p .contexts) l pastContext (rw e (hideContext-past z _ _ l)), e)
       go false e = rw e (sym (hideContext-none z _ l))
 
   -- An update of a context that commutes with hiding, put back.
-  pub putContext-hide : (p : VirtualProcessor) (l : ℕ) (c : Context) → isLevel z l ≡ true → putContext z (hideVp K E z p) l (hidden l c) ≡ hideVp K E z (putContext z p l c)
+  pub putContext-hide : (p : VirtualProcessor) (l : ℕ) (c : Context) → isLevel z l ≡ true → putContext z (hideVp K E z p) l (hidden (p .enabled) l c) ≡ hideVp K E z (putContext z p l c)
   unfolding putContext hideVp hidden hideLevel
   putContext-hide p l c h = rw (h, mapAt-set, h)
 
-  pub alter-hide : (p : VirtualProcessor) (l : ℕ) (f : Context → Context) → isLevel z l ≡ true → f (hidden l (context z p l)) ≡ hidden l (f (context z p l)) →
+  pub alter-hide : (p : VirtualProcessor) (l : ℕ) (f : Context → Context) → isLevel z l ≡ true → f (hidden (p .enabled) l (context z p l)) ≡ hidden (p .enabled) l (f (context z p l)) →
       putContext z (hideVp K E z p) l (f (context z (hideVp K E z p) l)) ≡ hideVp K E z (putContext z p l (f (context z p l)))
   alter-hide p l f h e = rw (context-hide, e) (putContext-hide p l (f (context z p l)) h)
 
   -- Registers: the private ones that are not hidden, as those of a level below K, and those that are shared.
-  pub private-seen : (p : VirtualProcessor) (l r : ℕ) → hides K (E l) l (context z p l .enabled) ≡ false → isPrivate z r ≡ true → privateOf z (hideVp K E z p) l r ≡ privateOf z p l r
-  unfolding privateOf hidden hideContext
+  pub private-seen : (p : VirtualProcessor) (l r : ℕ) → hides K (E l) l (enabledAt z p l) ≡ false → isPrivate z r ≡ true → privateOf z (hideVp K E z p) l r ≡ privateOf z p l r
+  unfolding privateOf hidden hideContext enabledAt
   private-seen p l r h e =
-      rw context-hide (number-mapAt (λ r x. cond (isPrivate z r) (cond (hides K (E l) l (context z p l .enabled)) (cond (eqb r cr0 && context z p l .enabled) 1 0) x) 0) 13 (context z p l .registers) r (rw (e, h)) ∙ rw (e, h))
+      rw context-hide (number-mapAt (λ r x. cond (isPrivate z r) (cond (hides K (E l) l (inSet z (p .enabled) l)) (cond (eqb r cr0 && inSet z (p .enabled) l) 1 0) x) 0) 13 (context z p l .registers) r (rw (e, h)) ∙ rw (e, h))
 
   pub private-hide : (p : VirtualProcessor) (l r : ℕ) → l < K → isPrivate z r ≡ true → privateOf z (hideVp K E z p) l r ≡ privateOf z p l r
   unfolding hides
@@ -115,13 +118,17 @@ module _ (K : ℕ) (E : ℕ → Bool) (z : Shape) where
   unfolding activeOf hideVp
   active-same p = refl
 
+  pub contexts-same : (p : VirtualProcessor) → length (hideVp K E z p .contexts) ≡ length (p .contexts)
+  unfolding hideVp
+  contexts-same p = length-mapAt _ (p .contexts)
+
   pub withActive-hide : (p : VirtualProcessor) (l : ℕ) → withActive (hideVp K E z p) l ≡ hideVp K E z (withActive p l)
   unfolding hideVp
   withActive-hide p l = refl
 
   pub enabled-same : (p : VirtualProcessor) (l : ℕ) → enabledAt z (hideVp K E z p) l ≡ enabledAt z p l
-  unfolding enabledAt hidden hideContext
-  enabled-same p l = ap (λ c. c .enabled) (context-hide p l)
+  unfolding enabledAt hideVp
+  enabled-same p l = in-hidden z (p .enabled) l
 
   pub tpr-same : (p : VirtualProcessor) (l : ℕ) → context z (hideVp K E z p) l .tpr ≡ context z p l .tpr
   unfolding hidden hideContext
@@ -251,7 +258,22 @@ module _ (K : ℕ) (E : ℕ → Bool) (z : Shape) where
   unfolding acknowledged
   acknowledged-hide p k = simp (active-same, highest-same) (setPending-hide p (activeOf p) _ 0 k)
 
-  -- A level that the run first enables: its registers are seen from now on.
-  pub started-hide : (p : VirtualProcessor) (t ip sp cr : ℕ) → isLevel z t ≡ true → E t ≡ false → started z (hideVp K E z p) t ip sp cr ≡ hideVp K E z (started z p t ip sp cr)
-  unfolding started hidden hideContext hides isPrivate mapAt
-  started-hide p t ip sp cr k e = alter-hide p t (λ c. startedContext c ip sp cr) k (simp (e, and-false, cond-same))
+  -- A level that the run first enables: its registers are seen from now on, and the other levels are hidden as before.
+  module _ (p : VirtualProcessor) (t ip sp cr : ℕ) (k : isLevel z t ≡ true) (e : E t ≡ false) where
+    enabled : LevelSet
+    enabled = withLevel z (p .enabled) t true
+
+    begun : Context
+    begun = startedContext (context z p t) ip sp cr
+
+    others : (l : ℕ) → (l ≡ t → ⊥) → (c : Context) → hideLevel K E z (p .enabled) l c ≡ hideLevel K E z enabled l c
+    unfolding hideLevel enabled
+    others l n c = rw (in-other z (p .enabled) t true k l n)
+
+    its-own : startedContext (context z (hideVp K E z p) t) ip sp cr ≡ hideLevel K E z enabled t begun
+    unfolding hideLevel hidden hideContext hides isPrivate mapAt enabled begun
+    its-own = rw (k, context-hide) (simp (in-here z (p .enabled) t true k, e, and-false, cond-same))
+
+    pub started-hide : started z (hideVp K E z p) t ip sp cr ≡ hideVp K E z (started z p t ip sp cr)
+    unfolding started putContext hideVp enabled begun
+    started-hide = rw (k, with-hidden z (p .enabled) t true k, its-own, mapAt-set-other (hideLevel K E z (p .enabled)) (hideLevel K E z enabled) (p .contexts) t begun others)

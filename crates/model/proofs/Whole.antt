@@ -5,19 +5,24 @@ use mathlib.Core.Bool.{Bool, true, false, not, cond, _&&_}
 use mathlib.Core.List.{List}
 use Prim.Native.Nat.{ℕ, zero, suc, _+_, _*_, _/_, _%_, _≤_, _<_}
 use native.Mathlib.Omega.{arith}
-use lib.Dec.{leb, ltb, eqb}
+use lib.Dec.{ltb, eqb}
 use lib.ListN.{length, getD}
-use borrow.Author.Tests.{lt-ltb, ne-eqb, ltb-true}
-use Rattle.model.specs.declared.machine.PartitionLevel.{PartitionLevel}
+use borrow.Author.Tests.{lt-ltb}
+use Rattle.model.specs.declared.machine.Partition.{Partition}
 use Rattle.model.specs.declared.machine.Shape.{Shape}
 use Rattle.model.specs.declared.machine.VirtualProcessor.{VirtualProcessor}
+use Rattle.model.specs.declared.quantity.Access.{Access}
+use Rattle.model.specs.declared.quantity.Mode.{Mode}
 use Rattle.model.specs.Arrays.{numberAt, stored}
-use Rattle.model.specs.Events.{onVp, onLevel, configured}
-use Rattle.model.specs.Masks.{turnsOn, defaultMask, protects}
-use Rattle.model.specs.State.{State, noContext, noVp, pastVp, noLevel, processors, shape, top, maxLevel, pages, isLevel, isProcessor, isPage, vp, partitionLevel, activeOf, active, enabledOn, enabledFor, mbecFor, configOf, maskOf, hostMask, wordOf}
-use Rattle.model.specs.Updates.{withConfig, putVp, putLevel, putMasks, setMask, filled, fillMasks, setWord}
-use Rattle.model.proofs.Bools.{and-left, and-right, cond-same, cond-ap, cond-else}
-use Rattle.model.specs.Hide.{closed, hideLevel, hideVp, hidePartition, isMask, hideMachine, hide}
+use Rattle.model.specs.Events.{configured}
+use Rattle.model.specs.Masks.{turnsOn, defaultMask, protectsIn, protects}
+use Rattle.model.specs.Memory.{deniesIn}
+use Rattle.model.specs.State.{State, levelSet, noContext, noVp, pastVp, processors, shape, top, maxLevel, pages, partition, isLevel, inSet, isProcessor, isPage, vp, activeOf, active, enabledOn, enabledFor, mbecFor, configIn, configOf, maskIn, maskOf, hostMask, wordOf}
+use Rattle.model.specs.Updates.{enableLevel, setConfig, putVp, putPartition, setMask, filled, fillMasks, setWord, onVp, onPartition}
+use Rattle.model.proofs.Bools.{and-left, and-right, cond-same, cond-ap}
+use Rattle.model.proofs.Four.{level-low}
+use Rattle.model.proofs.LevelSets.{none-in, none-hidden, in-hidden, with-hidden}
+use Rattle.model.specs.Hide.{closed, hideSet, hideLevel, hideVp, hidePartition, isMask, hideMachine, hide}
 use Rattle.model.specs.MapAt.{mapAt}
 use Rattle.model.proofs.Maps.{mapAt-nil, length-mapAt, getD-mapAt, mapAt-set, mapAt-stored, mapAt-replicate, number-mapAt}
 use Rattle.model.proofs.Visible.{hideContext-none, active-same, enabled-same}
@@ -27,17 +32,14 @@ hideVp-none : (K : ℕ) (E : ℕ → Bool) (z : Shape) → hideVp K E z noVp ≡
 unfolding hideVp hideLevel
 hideVp-none K E z =
     rw (
+      none-hidden z,
       mapAt-replicate {A = ℕ} (λ i x. cond (eqb i 0 && not (z .«dr6_shared»)) 0 x) 20 0 (λ i. cond-same (eqb i 0 && not (z .«dr6_shared»)) 0),
-      mapAt-replicate (hideLevel K E z) 4 noContext (λ l. rw (hideContext-none z _ l) (cond-same (isLevel z l) noContext)),
+      mapAt-replicate (hideLevel K E z (levelSet 0)) 4 noContext (λ l. rw (none-in z l, hideContext-none z _ l) (cond-same (isLevel z l) noContext)),
     )
 
 hideVp-past : (K : ℕ) (E : ℕ → Bool) (z : Shape) → hideVp K E z pastVp ≡ pastVp
 unfolding hideVp
-hideVp-past K E z = simp mapAt-nil
-
-hidePartition-none : (l : ℕ) → hidePartition l noLevel ≡ noLevel
-unfolding hidePartition
-hidePartition-none l = simp cond-same
+hideVp-past K E z = simp (mapAt-nil, none-hidden)
 
 module _ (K : ℕ) (E : ℕ → ℕ → Bool) (H : ℕ → Bool) where
   -- The sizes, and what else is not hidden.
@@ -83,7 +85,7 @@ module _ (K : ℕ) (E : ℕ → ℕ → Bool) (H : ℕ → Bool) where
       go false e = sym (hideVp-none K (E v) (shape s))
 
   pub putVp-hide : (s : State) (v : ℕ) (p : VirtualProcessor) → isProcessor s v ≡ true → putVp (hide K E H s) v (hideVp K (E v) (shape s) p) ≡ hide K E H (putVp s v p)
-  unfolding putVp isProcessor processors isPage pages isMask shape hide hideMachine
+  unfolding putVp isProcessor processors isPage pages isMask shape hide hideMachine hidePartition
   putVp-hide s v p h = rw (mapAt-stored, h)
 
   -- A change of one processor's record that commutes with hiding.
@@ -100,39 +102,56 @@ module _ (K : ℕ) (E : ℕ → ℕ → Bool) (H : ℕ → Bool) where
   unfolding enabledOn
   enabledOn-hide s v l = rw (shape-same, vp-hide) (enabled-same K (E v) (shape s) (vp s v) l)
 
-  -- The partition's part in a level.
-  pub partition-hide : (s : State) (l : ℕ) → partitionLevel (hide K E H s) l ≡ hidePartition l (partitionLevel s l)
-  unfolding partitionLevel hide hideMachine
-  partition-hide s l = rw shape-same (go (isLevel (shape s) l) refl)
-    where
-      go : (b : Bool) → isLevel (shape s) l ≡ b → cond b (getD (mapAt (λ l x. cond (isLevel (shape s) l) (hidePartition l x) noLevel) (s .machine .levels)) l noLevel) noLevel ≡ hidePartition l (cond b (getD (s .machine .levels) l noLevel) noLevel)
-      go true e = getD-mapAt (λ l x. cond (isLevel (shape s) l) (hidePartition l x) noLevel) (s .machine .levels) l noLevel (rw e (hidePartition-none l)) ∙ rw e
-      go false e = sym (hidePartition-none l)
+  -- What the partition holds.
+  pub partition-hide : (s : State) → partition (hide K E H s) ≡ hidePartition s (partition s)
+  unfolding partition hide hideMachine
+  partition-hide s = refl
 
-  pub putLevel-hide : (s : State) (l : ℕ) (x : PartitionLevel) → isLevel (shape s) l ≡ true → putLevel (hide K E H s) l (hidePartition l x) ≡ hide K E H (putLevel s l x)
-  unfolding putLevel isProcessor processors isPage pages isMask shape hide hideMachine
-  putLevel-hide s l x h = rw (mapAt-stored, h)
+  pub putPartition-hide : (s : State) (x : Partition) → putPartition (hide K E H s) (hidePartition s x) ≡ hide K E H (putPartition s x)
+  unfolding putPartition isProcessor processors isPage pages isMask shape hide hideMachine hidePartition
+  putPartition-hide s x = refl
 
-  pub onLevel-hide : (s : State) (l : ℕ) (f : PartitionLevel → PartitionLevel) → isLevel (shape s) l ≡ true → f (hidePartition l (partitionLevel s l)) ≡ hidePartition l (f (partitionLevel s l)) →
-      onLevel (hide K E H s) l f ≡ hide K E H (onLevel s l f)
-  unfolding onLevel
-  onLevel-hide s l f h e = rw (partition-hide, e) (putLevel-hide s l (f (partitionLevel s l)) h)
+  -- A change of it that commutes with hiding.
+  pub onPartition-hide : (s : State) (f : Shape → Partition → Partition) → f (shape s) (hidePartition s (partition s)) ≡ hidePartition s (f (shape s) (partition s)) →
+      onPartition (hide K E H s) f ≡ hide K E H (onPartition s f)
+  unfolding onPartition
+  onPartition-hide s f e = rw (shape-same, partition-hide, e) (putPartition-hide s (f (shape s) (partition s)))
 
   pub enabledFor-hide : (s : State) (l : ℕ) → enabledFor (hide K E H s) l ≡ enabledFor s l
   unfolding enabledFor hidePartition
-  enabledFor-hide s l = ap (λ x. x .enabled) (partition-hide s l)
+  enabledFor-hide s l = rw (shape-same, partition-hide) (in-hidden (shape s) (partition s .enabled) l)
 
   pub mbecFor-hide : (s : State) (l : ℕ) → mbecFor (hide K E H s) l ≡ mbecFor s l
   unfolding mbecFor hidePartition
-  mbecFor-hide s l = ap (λ x. x .mbec) (partition-hide s l)
+  mbecFor-hide s l = rw (shape-same, partition-hide) (in-hidden (shape s) (partition s .mbec) l)
+
+  configIn-hide : (s : State) (x : Partition) (l : ℕ) → configIn (shape s) (hidePartition s x .configs) l ≡ configIn (shape s) (x .configs) l
+  unfolding configIn hidePartition
+  configIn-hide s x l = go (ltb 0 l && isLevel (shape s) l) refl
+    where
+      go : (b : Bool) → (ltb 0 l && isLevel (shape s) l) ≡ b → cond b (numberAt 4 (mapAt (λ l w. cond (ltb 0 l && isLevel (shape s) l) w 0) (x .configs)) l) 0 ≡ cond b (numberAt 4 (x .configs) l) 0
+      go true e = number-mapAt (λ l w. cond (ltb 0 l && isLevel (shape s) l) w 0) 4 (x .configs) l (cond-same (ltb 0 l && isLevel (shape s) l) 0) ∙ rw e
+      go false e = refl
 
   pub config-hide : (s : State) (l : ℕ) → configOf (hide K E H s) l ≡ configOf s l
-  unfolding configOf hidePartition
-  config-hide s l = rw partition-hide (cond-else (eqb l 0) 0 (partitionLevel s l .config))
+  unfolding configOf
+  config-hide s l = rw (shape-same, partition-hide) (configIn-hide s (partition s) l)
+
+  pub protectsIn-hide : (s : State) (x : Partition) (l : ℕ) → protectsIn (shape s) (hidePartition s x .configs) l ≡ protectsIn (shape s) (x .configs) l
+  unfolding protectsIn
+  protectsIn-hide s x l = rw configIn-hide
 
   pub protects-hide : (s : State) (l : ℕ) → protects (hide K E H s) l ≡ protects s l
   unfolding protects
-  protects-hide s l = rw config-hide
+  protects-hide s l = rw (shape-same, partition-hide) (protectsIn-hide s (partition s) l)
+
+  pub enableLevel-hide : (s : State) (x : Partition) (l : ℕ) (b : Bool) → isLevel (shape s) l ≡ true → enableLevel (shape s) (hidePartition s x) l b ≡ hidePartition s (enableLevel (shape s) x l b)
+  unfolding enableLevel hidePartition
+  enableLevel-hide s x l b i = rw (with-hidden (shape s) (x .enabled) l true i, with-hidden (shape s) (x .mbec) l b i)
+
+  pub setConfig-hide : (s : State) (x : Partition) (l w : ℕ) → 0 < l → isLevel (shape s) l ≡ true → setConfig (hidePartition s x) l w ≡ hidePartition s (setConfig x l w)
+  unfolding setConfig hidePartition
+  setConfig-hide s x l w o i = rw (mapAt-stored, lt-ltb 0 l o, i)
 
   -- Masks. A mask that is read is in use.
   mask-place : (s : State) (l p : ℕ) → l < 4 → isMask s (4 * p + l) ≡ (ltb 0 l && isLevel (shape s) l && isPage s p)
@@ -142,26 +161,31 @@ module _ (K : ℕ) (E : ℕ → ℕ → Bool) (H : ℕ → Bool) where
       let b : (4 * p + l) / 4 ≡ p = omega arith in
       rw (a, b)
 
-  level-below : (s : State) (l : ℕ) → isLevel (shape s) l ≡ true → l < 4
-  unfolding isLevel
-  level-below s l h = ltb-true l 4 (and-right (leb l (top (shape s))) (ltb l 4) h)
-
-  pub mask-hide : (s : State) (l p : ℕ) → maskOf (hide K E H s) l p ≡ maskOf s l p
-  unfolding maskOf hide hideMachine
-  mask-hide s l p = rw (shape-same, page-same) (go (ltb 0 l && isLevel (shape s) l && isPage s p) refl)
+  maskIn-hide : (s : State) (x : Partition) (l p : ℕ) → maskIn (shape s) (pages s) (hidePartition s x .masks) l p ≡ maskIn (shape s) (pages s) (x .masks) l p
+  unfolding maskIn hidePartition isPage
+  maskIn-hide s x l p = go (ltb 0 l && isLevel (shape s) l && isPage s p) refl
     where
-      go : (b : Bool) → (ltb 0 l && isLevel (shape s) l && isPage s p) ≡ b → cond b (numberAt 256 (mapAt (λ i k. cond (isMask s i) k 0) (s .machine .masks)) (4 * p + l)) 0 ≡ cond b (numberAt 256 (s .machine .masks) (4 * p + l)) 0
+      go : (b : Bool) → (ltb 0 l && isLevel (shape s) l && isPage s p) ≡ b → cond b (numberAt 256 (mapAt (λ i k. cond (isMask s i) k 0) (x .masks)) (4 * p + l)) 0 ≡ cond b (numberAt 256 (x .masks) (4 * p + l)) 0
       go true e =
-          let below = level-below s l (and-right (ltb 0 l) (isLevel (shape s) l) (and-left (ltb 0 l && isLevel (shape s) l) (isPage s p) e)) in
-          number-mapAt (λ i k. cond (isMask s i) k 0) 256 (s .machine .masks) (4 * p + l) (cond-same (isMask s (4 * p + l)) 0) ∙ rw (mask-place s l p below, e)
+          let below = level-low (shape s) l (and-right (ltb 0 l) (isLevel (shape s) l) (and-left (ltb 0 l && isLevel (shape s) l) (isPage s p) e)) in
+          number-mapAt (λ i k. cond (isMask s i) k 0) 256 (x .masks) (4 * p + l) (cond-same (isMask s (4 * p + l)) 0) ∙ rw (mask-place s l p below, e)
       go false e = refl
 
-  mask-used : (s : State) (l p : ℕ) → 0 < l → isLevel (shape s) l ≡ true → isPage s p ≡ true → isMask s (4 * p + l) ≡ true
-  mask-used s l p a b c = mask-place s l p (level-below s l b) ∙ rw (lt-ltb 0 l a, b, c)
+  pub mask-hide : (s : State) (l p : ℕ) → maskOf (hide K E H s) l p ≡ maskOf s l p
+  unfolding maskOf
+  mask-hide s l p = rw (shape-same, pages-same, partition-hide) (maskIn-hide s (partition s) l p)
 
-  pub setMask-hide : (s : State) (l p k : ℕ) → 0 < l → isLevel (shape s) l ≡ true → isPage s p ≡ true → setMask (hide K E H s) l p k ≡ hide K E H (setMask s l p k)
-  unfolding setMask putMasks isProcessor processors isPage pages isMask shape hide hideMachine
-  setMask-hide s l p k a b c = rw (mapAt-stored, mask-used s l p a b c)
+  pub denies-hide : (s : State) (x : Partition) (l : ℕ) (mode : Mode) (p : ℕ) (a : Access) (t : ℕ) (b : Bool) →
+      deniesIn (shape s) (pages s) (hidePartition s x) l mode p a t b ≡ deniesIn (shape s) (pages s) x l mode p a t b
+  unfolding deniesIn
+  denies-hide s x l mode p a t b = rw (protectsIn-hide s x t, maskIn-hide s x t p)
+
+  mask-used : (s : State) (l p : ℕ) → 0 < l → isLevel (shape s) l ≡ true → isPage s p ≡ true → isMask s (4 * p + l) ≡ true
+  mask-used s l p a b c = mask-place s l p (level-low (shape s) l b) ∙ rw (lt-ltb 0 l a, b, c)
+
+  pub setMask-hide : (s : State) (x : Partition) (l p k : ℕ) → 0 < l → isLevel (shape s) l ≡ true → isPage s p ≡ true → setMask (hidePartition s x) l p k ≡ hidePartition s (setMask x l p k)
+  unfolding setMask hidePartition
+  setMask-hide s x l p k a b c = rw (mapAt-stored, mask-used s l p a b c)
 
   filled-hide : (s : State) (l k n : ℕ) → 0 < l → isLevel (shape s) l ≡ true → n ≤ 64 → (ms : List ℕ) →
       filled n (pages s) l k (mapAt (λ i x. cond (isMask s i) x 0) ms) ≡ mapAt (λ i x. cond (isMask s i) x 0) (filled n (pages s) l k ms)
@@ -176,16 +200,15 @@ module _ (K : ℕ) (E : ℕ → ℕ → Bool) (H : ℕ → Bool) where
       go true e = rw (mapAt-stored, mask-used s l n a b (unfold isPage in rw (e, lt-ltb n 64 (omega arith))))
       go false e = refl
 
-  pub fillMasks-hide : (s : State) (l k : ℕ) → 0 < l → isLevel (shape s) l ≡ true → fillMasks (hide K E H s) l k ≡ hide K E H (fillMasks s l k)
-  unfolding fillMasks putMasks isProcessor processors isPage pages isMask shape hide hideMachine
-  fillMasks-hide s l k a b = rw (filled-hide s l k 64 a b (omega arith) (s .machine .masks))
+  fillMasks-hide : (s : State) (x : Partition) (l k : ℕ) → 0 < l → isLevel (shape s) l ≡ true → fillMasks (pages s) (hidePartition s x) l k ≡ hidePartition s (fillMasks (pages s) x l k)
+  unfolding fillMasks hidePartition
+  fillMasks-hide s x l k a b = rw (filled-hide s l k 64 a b (omega arith) (x .masks))
 
-  pub configured-hide : (s : State) (g w : ℕ) → 0 < g → isLevel (shape s) g ≡ true → configured (hide K E H s) g w ≡ hide K E H (configured s g w)
+  pub configured-hide : (s : State) (x : Partition) (g w : ℕ) → 0 < g → isLevel (shape s) g ≡ true → configured (shape s) (pages s) (hidePartition s x) g w ≡ hidePartition s (configured (shape s) (pages s) x g w)
   unfolding configured
-  configured-hide s g w a b =
-      let t : State = onLevel s g (λ x. withConfig x w) in
-      rw (protects-hide, onLevel-hide s g (λ x. withConfig x w) b (unfold hidePartition in rw (ne-eqb g 0 (λ e. omega arith))), fillMasks-hide t g (defaultMask w) a (unfold onLevel putLevel shape in b))
-      (cond-ap (hide K E H) (turnsOn w && not (protects s g)) (fillMasks t g (defaultMask w)) t)
+  configured-hide s x g w a b =
+      rw (protectsIn-hide, setConfig-hide s x g w a b, fillMasks-hide s (setConfig x g w) g (defaultMask w) a b)
+      (cond-ap (hidePartition s) (turnsOn w && not (protectsIn (shape s) (x .configs) g)) (fillMasks (pages s) (setConfig x g w) g (defaultMask w)) (setConfig x g w))
 
   -- Words.
   pub word-hide : (s : State) (p : ℕ) → H p ≡ false → wordOf (hide K E H s) p ≡ wordOf s p
@@ -193,7 +216,7 @@ module _ (K : ℕ) (E : ℕ → ℕ → Bool) (H : ℕ → Bool) where
   word-hide s p h = rw (getD-mapAt (λ p x. cond (H p) 0 x) (s .words) p 0 (rw h), h)
 
   pub setWord-hide : (s : State) (p x : ℕ) → H p ≡ false → setWord (hide K E H s) p x ≡ hide K E H (setWord s p x)
-  unfolding setWord isProcessor processors isPage pages isMask shape hide hideMachine
+  unfolding setWord isProcessor processors isPage pages isMask shape hide hideMachine hidePartition
   setWord-hide s p x h = rw (mapAt-set, h)
 
   pub closed-same : (s : State) (p : ℕ) → closed K (hide K E H s) p ≡ closed K s p

@@ -5,61 +5,66 @@ use Prim.Native.Nat.{ℕ}
 use Rattle.model.specs.declared.answer.Answer.{Answer}
 use Rattle.model.specs.declared.answer.Answer.the-variants.{Done, Refused, Intercept}
 use Rattle.model.specs.declared.answer.Refusal.{Refusal}
-use Rattle.model.specs.declared.answer.Refusal.the-variants.{Malformed, NoSuchProcessor, NoSuchMode, LevelOutOfRange, MbecOutOfRange, LengthOutOfRange, ClassOutOfRange, VectorOutOfRange, NoSuchRegister, NoSuchPage, InvalidMask, ReservedBits, RealModeGiven, UserMode, RealMode, RcxNotZero, NoHigherLevel, AtLevelZero, RcxAboveOne, LevelZero, AboveMaximum, TargetNotAbove, TargetAbove, TargetNotBelow, NothingBelow, EnabledForPartition, EnabledOnProcessor, NotForPartition, NotOnProcessor, ProtectionsOff, NoMbec, ProtectionsCleared, DefaultMaskChanged, KernelOnlyExecute, NoReceiver, HostDenies, TlbLocked, NoneReady, InterruptsOff}
+use Rattle.model.specs.declared.answer.Refusal.the-variants as refusal
 
--- The number of each refusal. model/src/answer.rt says when each is given.
+-- The number of each refusal. model/src/answer.rt says which condition each is.
 abbrev pub refusalNumber : Refusal → ℕ
 -- 1: malformed line, field out of range, state not well formed
-refusalNumber Malformed = 1
-refusalNumber NoSuchProcessor = 1
-refusalNumber NoSuchMode = 1
-refusalNumber LevelOutOfRange = 1
-refusalNumber MbecOutOfRange = 1
-refusalNumber LengthOutOfRange = 1
-refusalNumber ClassOutOfRange = 1
-refusalNumber VectorOutOfRange = 1
-refusalNumber NoSuchRegister = 1
-refusalNumber NoSuchPage = 1
-refusalNumber InvalidMask = 1
-refusalNumber ReservedBits = 1
-refusalNumber RealModeGiven = 1
+refusalNumber refusal.LineTooLong = 1
+refusalNumber refusal.UnknownWord = 1
+refusalNumber refusal.WrongFieldCount = 1
+refusalNumber refusal.NotANumber = 1
+refusalNumber refusal.NotWellFormed = 1
+refusalNumber refusal.NoSuchProcessor = 1
+refusalNumber refusal.NoSuchTarget = 1
+refusalNumber refusal.NoSuchMode = 1
+refusalNumber refusal.LevelOutOfRange = 1
+refusalNumber refusal.MbecOutOfRange = 1
+refusalNumber refusal.LengthOutOfRange = 1
+refusalNumber refusal.ClassOutOfRange = 1
+refusalNumber refusal.VectorOutOfRange = 1
+refusalNumber refusal.NoSuchRegister = 1
+refusalNumber refusal.NoSuchPage = 1
+refusalNumber refusal.InvalidMask = 1
+refusalNumber refusal.ReservedBits = 1
+refusalNumber refusal.Cr0InRealMode = 1
 -- 2: #UD: user mode for anything but read, write, fetch; or a call or return that the rules fault
-refusalNumber UserMode = 2
-refusalNumber RealMode = 2
-refusalNumber RcxNotZero = 2
-refusalNumber NoHigherLevel = 2
-refusalNumber AtLevelZero = 2
-refusalNumber RcxAboveOne = 2
+refusalNumber refusal.UserMode = 2
+refusalNumber refusal.CallInRealMode = 2
+refusalNumber refusal.RcxNotZero = 2
+refusalNumber refusal.NoHigherLevel = 2
+refusalNumber refusal.ReturnAtLevelZero = 2
+refusalNumber refusal.RcxAboveOne = 2
 -- 3: target level above M, or 0 where a level above 0 is needed
-refusalNumber LevelZero = 3
-refusalNumber AboveMaximum = 3
+refusalNumber refusal.LevelZero = 3
+refusalNumber refusal.AboveMaximum = 3
 -- 4: the acting level has no right to it
-refusalNumber TargetNotAbove = 4
-refusalNumber TargetAbove = 4
-refusalNumber TargetNotBelow = 4
-refusalNumber NothingBelow = 4
+refusalNumber refusal.TargetNotAbove = 4
+refusalNumber refusal.TargetAbove = 4
+refusalNumber refusal.TargetNotBelow = 4
+refusalNumber refusal.ProtectAtLevelZero = 4
 -- 5: already enabled
-refusalNumber EnabledForPartition = 5
-refusalNumber EnabledOnProcessor = 5
+refusalNumber refusal.EnabledForPartition = 5
+refusalNumber refusal.EnabledOnProcessor = 5
 -- 6: target not enabled, protections not on, or MBEC not on
-refusalNumber NotForPartition = 6
-refusalNumber NotOnProcessor = 6
-refusalNumber ProtectionsOff = 6
-refusalNumber NoMbec = 6
+refusalNumber refusal.NotEnabledForPartition = 6
+refusalNumber refusal.NotEnabledOnProcessor = 6
+refusalNumber refusal.ProtectionsOff = 6
+refusalNumber refusal.NoMbec = 6
 -- 7: write-once field changed
-refusalNumber ProtectionsCleared = 7
-refusalNumber DefaultMaskChanged = 7
+refusalNumber refusal.ProtectionsCleared = 7
+refusalNumber refusal.DefaultMaskChanged = 7
 -- 8: KMX without UMX where the partition has MBEC for the level
-refusalNumber KernelOnlyExecute = 8
+refusalNumber refusal.KernelOnlyExecute = 8
 -- 10: a level denies, but no denying level is enabled on this processor
-refusalNumber NoReceiver = 10
+refusalNumber refusal.NoReceiver = 10
 -- 11: no level denies, the host mask does
-refusalNumber HostDenies = 11
+refusalNumber refusal.HostDenies = 11
 -- 12: flush held by a TLB lock
-refusalNumber TlbLocked = 12
+refusalNumber refusal.TlbLocked = 12
 -- 13: ack with no vector ready or RFLAGS bit 9 clear
-refusalNumber NoneReady = 13
-refusalNumber InterruptsOff = 13
+refusalNumber refusal.NoReadyVector = 13
+refusalNumber refusal.InterruptFlagClear = 13
 
 -- 0 is done, 9 an intercept.
 abbrev pub numberOf : Answer → ℕ

@@ -6,21 +6,21 @@ use mathlib.Core.Option.{some}
 use Prim.Native.Nat.{ℕ, _≤_, _<_}
 use lib.Dec.{leb, eqb}
 use Rattle.model.specs.declared.answer.Answer.{Answer}
-use Rattle.model.specs.declared.answer.Refusal.the-variants.{Malformed}
+use Rattle.model.specs.declared.answer.Refusal.{Refusal}
 use Rattle.model.specs.declared.event.Event.{Event}
 use Rattle.model.specs.declared.machine.FirstLine.{FirstLine}
 use Rattle.model.specs.Answers.{numberOf, valueOf, _when_}
 use Rattle.model.specs.Cases.{cases, given, expected}
 use Rattle.model.specs.Entry.{enter, byInterrupt}
-use Rattle.model.specs.Events.{onVp}
 use Rattle.model.specs.Fresh.{admissible, fresh}
 use Rattle.model.specs.State.{State, processors, active, enabledOn}
+use Rattle.model.specs.Updates.{onVp}
 use Rattle.model.specs.Step.{Outcome, rule, maker, step}
 use Rattle.model.specs.WellFormed.{wellFormed}
 
 -- All conditions on which an event is refused or intercepted.
 abbrev pub conditions : State → Event → List (Answer × Bool)
-conditions s e = Malformed when not (wellFormed s) ∷ rule s e .refusals
+conditions s e = Refusal.NotWellFormed when not (wellFormed s) ∷ rule s e .refusals
 
 -- The numbers of a list of conditions rise from n on.
 abbrev pub rises : ℕ → List (Answer × Bool) → Bool

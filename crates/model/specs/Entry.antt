@@ -10,8 +10,8 @@ use Rattle.model.specs.declared.machine.Shape.{Shape}
 use Rattle.model.specs.declared.machine.VirtualProcessor.{VirtualProcessor}
 use Rattle.model.specs.Bounded.{least, highest}
 use Rattle.model.specs.Registers.{rip, rax, rcx, privateOf, sharedOf}
-use Rattle.model.specs.State.{context, activeOf, enabledAt, isPending, noControl}
-use Rattle.model.specs.Updates.{withControl, withActive, putContext, setShared, setPrivate, setPending, unlocked}
+use Rattle.model.specs.State.{noLevel, context, activeOf, enabledAt, isPending, noControl}
+use Rattle.model.specs.Updates.{withControl, withActive, withEnabled, withLevel, putContext, setShared, setPrivate, setPending, unlocked}
 
 -- Reasons: 1 call, 2 interrupt or intercept.
 abbrev pub byCall : ℕ
@@ -35,9 +35,9 @@ isReady c n = ltb (c .tpr) (n / 16)
 unfoldable pub highestReady : Context → ℕ
 highestReady c = highest 256 (λ n. isPending c n && isReady c n)
 
--- The next enabled level up; 4 if there is none.
+-- The next enabled level up.
 unfoldable pub nextUp : Shape → VirtualProcessor → ℕ
-nextUp z p = least 4 (λ l. ltb (activeOf p) l && enabledAt z p l)
+nextUp z p = least noLevel (λ l. ltb (activeOf p) l && enabledAt z p l)
 
 -- The active level's RIP grows by the length, modulo 2^64.
 unfoldable pub advanced : Shape → VirtualProcessor → ℕ → VirtualProcessor
@@ -81,20 +81,20 @@ interrupted z p g n =
     let q = setPending z p g n 1 in
     cond (enters z p g n) (enter z q g byInterrupt) q
 
--- envp: sets RIP, RSP and CR0, the other private registers 0, TPR 0, nothing pending, reason 0, entered from 0, its record's
+-- envp: level t is enabled. Sets RIP, RSP and CR0, the other private registers 0, TPR 0, nothing pending, reason 0, entered from 0, its record's
 -- RAX and RCX 0. What the level holds of lower levels stays.
 abbrev pub startedContext : Context → ℕ → ℕ → ℕ → Context
 startedContext c ip sp cr = record {
   registers = ip ∷ sp ∷ 0 ∷ cr ∷ replicate 9 0;
   tpr = 0;
   pending = replicate 4 0;
-  enabled = true;
   secure = c .secure;
   control = noControl;
 }
 
 unfoldable pub started : Shape → VirtualProcessor → ℕ → ℕ → ℕ → ℕ → VirtualProcessor
-started z p t ip sp cr = putContext z p t (startedContext (context z p t) ip sp cr)
+started z p t ip sp cr =
+    withEnabled (putContext z p t (startedContext (context z p t) ip sp cr)) (withLevel z (p .enabled) t true)
 
 -- ack: takes the highest ready vector of the actor.
 unfoldable pub acknowledged : Shape → VirtualProcessor → VirtualProcessor

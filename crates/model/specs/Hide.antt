@@ -7,13 +7,14 @@ use lib.Dec.{leb, ltb, eqb}
 use Rattle.word.specs.Field.{bit}
 use Rattle.model.specs.declared.machine.Context.{Context}
 use Rattle.model.specs.declared.machine.Machine.{Machine}
-use Rattle.model.specs.declared.machine.PartitionLevel.{PartitionLevel}
+use Rattle.model.specs.declared.machine.Partition.{Partition}
 use Rattle.model.specs.declared.machine.Shape.{Shape}
 use Rattle.model.specs.declared.machine.VirtualProcessor.{VirtualProcessor}
-use Rattle.model.specs.Bounded.{any}
+use Rattle.model.specs.declared.set.LevelSet.{LevelSet}
+use Rattle.model.specs.Bounded.{any, bits}
 use Rattle.model.specs.Masks.{readBit, protects}
 use Rattle.model.specs.Registers.{cr0, isPrivate}
-use Rattle.model.specs.State.{State, noControl, noContext, noVp, noLevel, processors, active, isLevel, isProcessor, isPage, shape, maskOf, hostMask}
+use Rattle.model.specs.State.{State, levelSet, noControl, noContext, noVp, processors, active, inSet, isLevel, isProcessor, isPage, shape, maskOf, hostMask}
 use Rattle.model.specs.MapAt.{mapAt}
 
 -- Words of a page where the host mask, or the page's mask of a level from K up with protections on, lacks Read.
@@ -25,36 +26,47 @@ closed K s p = not (bit (hostMask s p) readBit) || any 4 (λ t. leb K t && prote
 unfoldable pub hides : ℕ → Bool → ℕ → Bool → Bool
 hides K was l is = leb K l && (was || not is)
 
--- What a processor holds of level l, with its private registers hidden where h says so: 0, and CR0 1 at an enabled level. No part
--- of a state: DR6 here where it is shared, what the level holds for itself and higher levels, and level 0's control record.
-unfoldable pub hideContext : Shape → Bool → ℕ → Context → Context
-hideContext z h l c = record {
-  registers = mapAt (λ r x. cond (isPrivate z r) (cond h (cond (eqb r cr0 && c .enabled) 1 0) x) 0) (c .registers);
+-- A set of levels: no part of a state are levels above M.
+unfoldable pub hideSet : Shape → LevelSet → LevelSet
+hideSet z x = levelSet (bits 4 (λ l. inSet z x l))
+
+-- What a processor holds of level l, enabled or not as `on` tells, with its private registers hidden where h says so: 0, and CR0 1
+-- at an enabled level. No part of a state: DR6 here where it is shared, what the level holds for itself and higher levels, and
+-- level 0's control record.
+unfoldable pub hideContext : Shape → Bool → Bool → ℕ → Context → Context
+hideContext z h on l c = record {
+  registers = mapAt (λ r x. cond (isPrivate z r) (cond h (cond (eqb r cr0 && on) 1 0) x) 0) (c .registers);
   tpr = c .tpr;
   pending = c .pending;
-  enabled = c .enabled;
   secure = mapAt (λ j w. cond (ltb j l) w 0) (c .secure);
   control = cond (eqb l 0) noControl (c .control);
 }
 
 -- A processor; E tells the levels enabled on it at the start. No part of a state: levels above M, and DR6 here where it is private.
-unfoldable pub hideLevel : ℕ → (ℕ → Bool) → Shape → ℕ → Context → Context
-hideLevel K E z l c = cond (isLevel z l) (hideContext z (hides K (E l) l (c .enabled)) l c) noContext
+unfoldable pub hideLevel : ℕ → (ℕ → Bool) → Shape → LevelSet → ℕ → Context → Context
+hideLevel K E z enabled l c =
+    let on = inSet z enabled l in cond (isLevel z l) (hideContext z (hides K (E l) l on) on l c) noContext
 
 unfoldable pub hideVp : ℕ → (ℕ → Bool) → Shape → VirtualProcessor → VirtualProcessor
 hideVp K E z p = record {
   active = p .active;
+  enabled = hideSet z (p .enabled);
   shared = mapAt (λ i x. cond (eqb i 0 && not (z .«dr6_shared»)) 0 x) (p .shared);
-  contexts = mapAt (hideLevel K E z) (p .contexts);
+  contexts = mapAt (hideLevel K E z (p .enabled)) (p .contexts);
 }
-
--- The partition's part in a level. Level 0 has no configuration word.
-unfoldable pub hidePartition : ℕ → PartitionLevel → PartitionLevel
-hidePartition l x = record { enabled = x .enabled; mbec = x .mbec; config = cond (eqb l 0) 0 (x .config) }
 
 -- The mask at place i is that of level i % 4 for page i / 4. Level 0 has no masks.
 unfoldable pub isMask : State → ℕ → Bool
 isMask s i = ltb 0 (i % 4) && isLevel (shape s) (i % 4) && isPage s (i / 4)
+
+-- What the partition holds. Level 0 has no configuration word.
+unfoldable pub hidePartition : State → Partition → Partition
+hidePartition s x = record {
+  enabled = hideSet (shape s) (x .enabled);
+  mbec = hideSet (shape s) (x .mbec);
+  configs = mapAt (λ l w. cond (ltb 0 l && isLevel (shape s) l) w 0) (x .configs);
+  masks = mapAt (λ i k. cond (isMask s i) k 0) (x .masks);
+}
 
 -- The state. E tells the levels enabled on each processor at the start, H the pages whose words are hidden.
 unfoldable pub hideMachine : ℕ → (ℕ → ℕ → Bool) → State → Machine
@@ -63,8 +75,7 @@ hideMachine K E s = record {
   pages = s .machine .pages;
   «host_mask» = s .machine .«host_mask»;
   shape = s .machine .shape;
-  levels = mapAt (λ l x. cond (isLevel (shape s) l) (hidePartition l x) noLevel) (s .machine .levels);
-  masks = mapAt (λ i k. cond (isMask s i) k 0) (s .machine .masks);
+  partition = hidePartition s (s .machine .partition);
   vps = mapAt (λ v p. cond (isProcessor s v) (hideVp K (E v) (shape s) p) noVp) (s .machine .vps);
 }
 

@@ -4,8 +4,10 @@ use Prim.Native.Nat.{ℕ}
 use lib.Dec.{leb, eqb}
 use Rattle.word.specs.Field.{bit}
 use Rattle.word.specs.Layout.{reservedClear}
-use Rattle.word.specs.Registers.{partitionConfig, secureConfig, unpackAs}
-use Rattle.model.specs.State.{State, configOf}
+use Rattle.word.specs.RegisterLayouts.{partitionConfig, secureConfig, unpackAs}
+use mathlib.Core.List.{List}
+use Rattle.model.specs.declared.machine.Shape.{Shape}
+use Rattle.model.specs.State.{State, shape, partition, configIn}
 
 -- A mask has Read 1, Write 2, KMX 4, UMX 8.
 abbrev pub readBit : ℕ
@@ -43,5 +45,8 @@ abbrev pub secureReservedSet : ℕ → Bool
 secureReservedSet w = not (reservedClear (secureConfig .layout) w)
 
 -- Level l's protections are on: bit 0 of its word.
+unfoldable pub protectsIn : Shape → List ℕ → ℕ → Bool
+protectsIn z configs l = turnsOn (configIn z configs l)
+
 unfoldable pub protects : State → ℕ → Bool
-protects s l = turnsOn (configOf s l)
+protects s l = protectsIn (shape s) (partition s .configs) l

@@ -1,37 +1,52 @@
 -- The access decision (01, "Memory"). Assumes nothing.
-use mathlib.Core.Bool.{Bool, false, not, cond, _&&_}
+use mathlib.Core.Bool.{Bool, true, false, not, cond, _&&_}
 use Prim.Native.Nat.{ℕ}
-use lib.Dec.{ltb, eqb}
+use lib.Dec.{ltb}
 use Rattle.word.specs.Field.{bit}
+use Rattle.model.specs.declared.machine.Partition.{Partition}
+use Rattle.model.specs.declared.machine.Shape.{Shape}
 use Rattle.model.specs.declared.quantity.Access.{Access}
+use Rattle.model.specs.declared.quantity.Mode.{Mode}
 use Rattle.model.specs.Bounded.{any, least}
-use Rattle.model.specs.Masks.{readBit, writeBit, kmxBit, umxBit, protects}
-use Rattle.model.specs.State.{State, shape, vp, active, enabledOn, maskOf, hostMask, secureOf, mbecBit}
+use Rattle.model.specs.Masks.{readBit, writeBit, kmxBit, umxBit, protectsIn}
+use Rattle.model.specs.State.{State, noLevel, shape, pages, partition, vp, active, enabledOn, maskIn, hostMask, secureOf, mbecBit}
+
+-- Mode 0 is kernel, 1 user.
+unfoldable pub isUser : Mode → Bool
+isUser Mode.Kernel = false
+isUser Mode.User = true
 
 -- The needed bit: Read, Write, or for a fetch KMX, unless MBEC is on, where a user fetch needs UMX instead.
-unfoldable pub needed : Bool → ℕ → Access → ℕ
+unfoldable pub needed : Bool → Mode → Access → ℕ
 needed mbec mode Access.Read = readBit
 needed mbec mode Access.Write = writeBit
-needed mbec mode Access.Fetch = cond (mbec && eqb mode 1) umxBit kmxBit
+needed mbec mode Access.Fetch = cond (mbec && isUser mode) umxBit kmxBit
 
 -- MBEC is on for t, l and v.
 unfoldable pub mbecOn : State → ℕ → ℕ → ℕ → Bool
 mbecOn s v t l = bit (secureOf (shape s) (vp s v) t l) mbecBit
 
--- Level t denies an access by l < t if t's protections are on and its mask lacks the needed bit.
-unfoldable pub denies : State → ℕ → ℕ → ℕ → Access → ℕ → Bool
+-- Level t denies an access by l < t if t's protections are on and its mask lacks the needed bit. `mbec` tells whether MBEC is on
+-- for t, l and v.
+unfoldable pub deniesIn : Shape → ℕ → Partition → ℕ → Mode → ℕ → Access → ℕ → Bool → Bool
+deniesIn z P x l mode p access t mbec =
+    ltb l t && protectsIn z (x .configs) t && not (bit (maskIn z P (x .masks) t p) (needed mbec mode access))
+
+unfoldable pub denies : State → ℕ → Mode → ℕ → Access → ℕ → Bool
 denies s v mode p access t =
-    let l = active s v in
-    ltb l t && protects s t && not (bit (maskOf s t p) (needed (mbecOn s v t l) mode access))
+    let l = active s v in deniesIn (shape s) (pages s) (partition s) l mode p access t (mbecOn s v t l)
 
 -- Some level denies it.
-unfoldable pub denied : State → ℕ → ℕ → ℕ → Access → Bool
+unfoldable pub denied : State → ℕ → Mode → ℕ → Access → Bool
 denied s v mode p access = any 4 (λ t. denies s v mode p access t)
 
--- Of the denying levels above the actor that are enabled on v, the lowest receives the intercept; 4 if there is none.
-unfoldable pub receiver : State → ℕ → ℕ → ℕ → Access → ℕ
-receiver s v mode p access = least 4 (λ t. denies s v mode p access t && enabledOn s v t)
+-- Of the denying levels above the actor that are enabled on v, the lowest receives the intercept.
+unfoldable pub receiver : State → ℕ → Mode → ℕ → Access → ℕ
+receiver s v mode p access = least noLevel (λ t. denies s v mode p access t && enabledOn s v t)
 
--- The host needs Read, Write or KMX.
+-- The host needs Read, Write or KMX of its mask.
+unfoldable pub hostDeniesBy : ℕ → Access → Bool
+hostDeniesBy k access = not (bit k (needed false Mode.Kernel access))
+
 unfoldable pub hostDenies : State → ℕ → Access → Bool
-hostDenies s p access = not (bit (hostMask s p) (needed false 0 access))
+hostDenies s p access = hostDeniesBy (hostMask s p) access

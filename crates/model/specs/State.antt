@@ -2,7 +2,7 @@
 -- the pages P gives the empty record or 0: what lies there is no part of a state. Nor is level 0's control record, its
 -- configuration word or its masks, or DR6 in the place that Dr6Shared leaves unused. Assumes nothing.
 use mathlib.Core.Bool.{Bool, false, cond, _&&_}
-use mathlib.Core.List.{List, []}
+use mathlib.Core.List.{List, [], _∷_}
 use Prim.Native.Nat.{ℕ, _+_, _*_, _/_, _%_}
 use lib.Dec.{leb, ltb, eqb}
 use lib.ListN.{getD, replicate}
@@ -10,20 +10,29 @@ use Rattle.word.specs.Field.{bit}
 use Rattle.model.specs.declared.machine.Context.{Context}
 use Rattle.model.specs.declared.machine.Control.{Control}
 use Rattle.model.specs.declared.machine.Machine.{Machine}
-use Rattle.model.specs.declared.machine.PartitionLevel.{PartitionLevel}
+use Rattle.model.specs.declared.machine.Partition.{Partition}
 use Rattle.model.specs.declared.machine.Shape.{Shape}
 use Rattle.model.specs.declared.machine.VirtualProcessor.{VirtualProcessor}
 use Rattle.model.specs.declared.quantity.Level.{Level}
+use Rattle.model.specs.declared.set.LevelSet.{LevelSet}
 use Rattle.model.specs.Arrays.{numberAt}
+use Rattle.model.specs.Bounded.{allOf}
 
 -- The machine, and the words of its pages, which the caller lends.
 pub record State : Type 0 where
   pub machine : Machine
   pub words : List ℕ
 
--- A number as a level.
+-- A number as a level, and as a set of levels: bit l tells whether level l is in it.
 abbrev pub level : ℕ → Level
 level l = record { 0 = l }
+
+abbrev pub levelSet : ℕ → LevelSet
+levelSet n = record { 0 = n }
+
+-- What a search for a level gives where there is none.
+abbrev pub noLevel : ℕ
+noLevel = 4
 
 -- V, M and P.
 unfoldable pub processors : State → ℕ
@@ -41,33 +50,42 @@ maxLevel s = top (shape s)
 unfoldable pub pages : State → ℕ
 pages s = s .machine .pages
 
+-- What the partition holds of its levels.
+unfoldable pub partition : State → Partition
+partition s = s .machine .partition
+
+-- V processors 1..4, maximum level M 0..3, P pages 1..64.
+unfoldable pub inRange : ℕ → ℕ → ℕ → Bool
+inRange processors maximum pages =
+    allOf (leb 1 processors ∷ leb processors 4 ∷ leb maximum 3 ∷ leb 1 pages ∷ leb pages 64 ∷ [])
+
 -- The empty records: all 0, nothing enabled.
 abbrev pub noControl : Control
 noControl = record { reason = 0; from = level 0; rax = 0; rcx = 0 }
 
 abbrev pub noContext : Context
-noContext = record { registers = replicate 13 0; tpr = 0; pending = replicate 4 0; enabled = false; secure = replicate 4 0; control = noControl }
+noContext = record { registers = replicate 13 0; tpr = 0; pending = replicate 4 0; secure = replicate 4 0; control = noControl }
 
 abbrev pub noVp : VirtualProcessor
-noVp = record { active = level 0; shared = replicate 20 0; contexts = replicate 4 noContext }
-
-abbrev pub noLevel : PartitionLevel
-noLevel = record { enabled = false; mbec = false; config = 0 }
+noVp = record { active = level 0; enabled = levelSet 0; shared = replicate 20 0; contexts = replicate 4 noContext }
 
 -- What a list of records gives past its end. No reading goes there: a machine has room for four processors, four levels
 -- and 64 pages, and a search goes through that room.
 abbrev pub pastContext : Context
-pastContext = record { registers = []; tpr = 0; pending = []; enabled = false; secure = []; control = noControl }
+pastContext = record { registers = []; tpr = 0; pending = []; secure = []; control = noControl }
 
 abbrev pub pastVp : VirtualProcessor
-pastVp = record { active = level 0; shared = []; contexts = [] }
+pastVp = record { active = level 0; enabled = levelSet 0; shared = []; contexts = [] }
 
--- Level l is one of 0 to M; processor v is one of the V; page p is one of the P.
+-- Level l is one of 0 to M; processor v is one of a number of processors, of the V; page p is one of the P.
 unfoldable pub isLevel : Shape → ℕ → Bool
 isLevel z l = leb l (top z) && ltb l 4
 
+abbrev pub isIndex : ℕ → ℕ → Bool
+isIndex count v = ltb v count && ltb v 4
+
 unfoldable pub isProcessor : State → ℕ → Bool
-isProcessor s v = ltb v (processors s) && ltb v 4
+isProcessor s v = isIndex (processors s) v
 
 unfoldable pub isPage : State → ℕ → Bool
 isPage s p = ltb p (pages s) && ltb p 64
@@ -80,10 +98,6 @@ vp s v = cond (isProcessor s v) (getD (s .machine .vps) v pastVp) noVp
 unfoldable pub context : Shape → VirtualProcessor → ℕ → Context
 context z p l = cond (isLevel z l) (getD (p .contexts) l pastContext) noContext
 
--- What the partition holds of level l.
-unfoldable pub partitionLevel : State → ℕ → PartitionLevel
-partitionLevel s l = cond (isLevel (shape s) l) (getD (s .machine .levels) l noLevel) noLevel
-
 -- The active level of a processor, and of processor v.
 unfoldable pub activeOf : VirtualProcessor → ℕ
 activeOf p = p .active .0
@@ -91,26 +105,40 @@ activeOf p = p .active .0
 unfoldable pub active : State → ℕ → ℕ
 active s v = activeOf (vp s v)
 
+-- Level l, one of 0 to M, is in a set of levels.
+unfoldable pub inSet : Shape → LevelSet → ℕ → Bool
+inSet z x l = isLevel z l && bit (x .0) l
+
+-- How many of the four levels there are.
+abbrev pub levelCount : Shape → ℕ
+levelCount z = cond (ltb (top z) 4) (top z + 1) 4
+
 -- Level l is enabled on a processor, on processor v, for the partition.
 unfoldable pub enabledAt : Shape → VirtualProcessor → ℕ → Bool
-enabledAt z p l = context z p l .enabled
+enabledAt z p l = inSet z (p .enabled) l
 
 unfoldable pub enabledOn : State → ℕ → ℕ → Bool
 enabledOn s v l = enabledAt (shape s) (vp s v) l
 
 unfoldable pub enabledFor : State → ℕ → Bool
-enabledFor s l = partitionLevel s l .enabled
+enabledFor s l = inSet (shape s) (partition s .enabled) l
 
 -- The partition has MBEC for level l.
 unfoldable pub mbecFor : State → ℕ → Bool
-mbecFor s l = partitionLevel s l .mbec
+mbecFor s l = inSet (shape s) (partition s .mbec) l
 
 -- The configuration word of a level above 0, and its mask of page p.
+unfoldable pub configIn : Shape → List ℕ → ℕ → ℕ
+configIn z configs l = cond (ltb 0 l && isLevel z l) (numberAt 4 configs l) 0
+
 unfoldable pub configOf : State → ℕ → ℕ
-configOf s l = cond (eqb l 0) 0 (partitionLevel s l .config)
+configOf s l = configIn (shape s) (partition s .configs) l
+
+unfoldable pub maskIn : Shape → ℕ → List ℕ → ℕ → ℕ → ℕ
+maskIn z P masks l p = cond (ltb 0 l && isLevel z l && (ltb p P && ltb p 64)) (numberAt 256 masks (4 * p + l)) 0
 
 unfoldable pub maskOf : State → ℕ → ℕ → ℕ
-maskOf s l p = cond (ltb 0 l && isLevel (shape s) l && isPage s p) (numberAt 256 (s .machine .masks) (4 * p + l)) 0
+maskOf s l p = maskIn (shape s) (pages s) (partition s .masks) l p
 
 -- The host's mask of page p: one mask for all pages.
 unfoldable pub hostMask : State → ℕ → ℕ

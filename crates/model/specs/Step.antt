@@ -3,21 +3,24 @@ use mathlib.Core.Bool.{cond}
 use mathlib.Core.List.{List, [], _∷_}
 use mathlib.Core.Option.{Option, none, some}
 use Prim.Native.Nat.{ℕ}
+use lib.Dec.{leb, ltb, eqb}
 use Rattle.model.specs.declared.answer.Answer.{Answer}
 use Rattle.model.specs.declared.answer.Answer.the-variants.{Done, Refused, Intercept}
-use Rattle.model.specs.declared.answer.Refusal.the-variants.{Malformed}
+use Rattle.model.specs.declared.answer.Refusal.{Refusal}
 use Rattle.model.specs.declared.event.Action.{Action}
 use Rattle.model.specs.declared.event.Action.the-variants.{Enpart, Envp, Call, Ret, Read, Write, Fetch, Protect, Config, Secure, Flush, Rreg, Wreg, Tpr, Ack, Pstat, Vstat, Caps}
 use Rattle.model.specs.declared.event.Event.{Event}
 use Rattle.model.specs.declared.event.Event.the-variants.{Made, Int}
-use Rattle.model.specs.Answers.{firstOf}
+use Rattle.model.specs.declared.quantity.Mode.{Mode}
+use Rattle.model.specs.Answers.{_when_, firstOf}
 use Rattle.model.specs.Entry.{enter, byInterrupt}
-use Rattle.model.specs.Events.{Rule, onVp, madeOn, enpart, envp, call, ret, read, write, fetch, protect, config, secure, flush, rreg, wreg, tpr, ack, int, pstat, vstat, caps}
-use Rattle.model.specs.State.{State}
+use Rattle.model.specs.Events.{Rule, enpart, envp, call, ret, read, write, fetch, protect, config, secure, flush, rreg, wreg, tpr, ack, int, pstat, vstat, caps}
+use Rattle.model.specs.State.{State, processors}
+use Rattle.model.specs.Updates.{onVp}
 use Rattle.model.specs.WellFormed.{wellFormed}
 
 -- The rule of what a level does on processor v in a mode.
-unfoldable pub ruleOf : State → ℕ → ℕ → Action → Rule
+unfoldable pub ruleOf : State → ℕ → Mode → Action → Rule
 ruleOf s v mode (Enpart t mbec) = enpart s v mode (t .0) mbec
 ruleOf s v mode (Envp w t ip sp cr) = envp s v mode (w .0) (t .0) ip sp cr
 ruleOf s v mode (Call len) = call s v mode len
@@ -37,10 +40,14 @@ ruleOf s v mode Pstat = pstat s v mode
 ruleOf s v mode Vstat = vstat s v mode
 ruleOf s v mode Caps = caps s v mode
 
--- The rule of an event. One that a level makes has the conditions of `madeOn` first.
+-- Mode 0 is kernel, 1 user.
+abbrev pub modeOf : ℕ → Mode
+modeOf mode = cond (eqb mode 1) Mode.User Mode.Kernel
+
+-- The rule of an event. For one that a level makes there is, first of all, such a processor and such a mode.
 unfoldable pub rule : State → Event → Rule
-rule s (Made v mode a) = let r = ruleOf s (v .0) mode a in record {
-  refusals = madeOn s (v .0) mode (r .refusals);
+rule s (Made v mode a) = let r = ruleOf s (v .0) (modeOf mode) a in record {
+  refusals = Refusal.NoSuchProcessor when leb (processors s) (v .0) ∷ Refusal.NoSuchMode when ltb 1 mode ∷ r .refusals;
   value = r .value;
   effect = r .effect;
 }
@@ -56,27 +63,34 @@ unfoldable pub intercepted : State → Option ℕ → ℕ → State
 intercepted s none l = s
 intercepted s (some v) l = onVp s v (λ z p. enter z p l byInterrupt)
 
--- The next state for an answer. State and lent words stay the same at 1..8 and 10..13.
-unfoldable pub nextFor : Answer → State → Event → State
-nextFor (Done x) s e = rule s e .effect
-nextFor (Refused r) s e = s
-nextFor (Intercept l) s e = intercepted s (maker e) (l .0)
+-- The next state for an answer: the effect of an event that is done. State and lent words stay the same at 1..8 and 10..13.
+unfoldable pub nextFor : Answer → State → Option ℕ → State → State
+nextFor (Done x) s by effect = effect
+nextFor (Refused r) s by effect = s
+nextFor (Intercept l) s by effect = intercepted s by (l .0)
 
 -- An answer and the next state.
 pub record Outcome : Type 0 where
   pub answer : Answer
   pub next : State
 
-abbrev pub answered : Answer → State → Event → Outcome
-answered a s e = record { answer = a; next = nextFor a s e }
+-- What a rule gives: the first refusal that applies, or else the event is done.
+abbrev pub answerBy : Rule → Answer
+answerBy r = firstOf (r .refusals) (Done (r .value))
 
--- What the rule of an event gives for any state: the first refusal that applies, or else the event is done.
+abbrev pub outcome : State → Option ℕ → Rule → Outcome
+outcome s by r = record { answer = answerBy r; next = nextFor (answerBy r) s by (r .effect) }
+
+-- What the rule of an event gives for any state, and what the rule of an action does, made on processor v in a mode.
 unfoldable pub ruled : State → Event → Outcome
-ruled s e = answered (firstOf (rule s e .refusals) (Done (rule s e .value))) s e
+ruled s e = outcome s (maker e) (rule s e)
+
+unfoldable pub acted : State → ℕ → Mode → Action → Outcome
+acted s v mode a = outcome s (some v) (ruleOf s v mode a)
 
 -- One event: a state that is not well formed gets answer 1.
 unfoldable pub step : State → Event → Outcome
-step s e = cond (wellFormed s) (ruled s e) (answered (Refused Malformed) s e)
+step s e = cond (wellFormed s) (ruled s e) (record { answer = Refused Refusal.NotWellFormed; next = s })
 
 -- A run: each event gets the state and page words that the last one left.
 unfoldable pub answers : State → List Event → List Answer

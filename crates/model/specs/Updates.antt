@@ -9,44 +9,53 @@ use Rattle.word.specs.Field.{put}
 use Rattle.model.specs.declared.machine.Context.{Context}
 use Rattle.model.specs.declared.machine.Control.{Control}
 use Rattle.model.specs.declared.machine.Machine.{Machine}
-use Rattle.model.specs.declared.machine.PartitionLevel.{PartitionLevel}
+use Rattle.model.specs.declared.machine.Partition.{Partition}
 use Rattle.model.specs.declared.machine.Shape.{Shape}
 use Rattle.model.specs.declared.machine.VirtualProcessor.{VirtualProcessor}
+use Rattle.model.specs.declared.set.LevelSet.{LevelSet}
 use Rattle.model.specs.Arrays.{numberAt, stored}
 use Rattle.model.specs.Registers.{dr6, isPrivate}
-use Rattle.model.specs.State.{State, level, pages, isLevel, context, lockBit}
+use Rattle.model.specs.State.{State, level, levelSet, shape, pages, partition, isLevel, vp, context, lockBit}
 
 -- A context with one field changed.
 abbrev pub withRegisters : Context → List ℕ → Context
-withRegisters c rs = record { registers = rs; tpr = c .tpr; pending = c .pending; enabled = c .enabled; secure = c .secure; control = c .control }
+withRegisters c rs = record { registers = rs; tpr = c .tpr; pending = c .pending; secure = c .secure; control = c .control }
 
 abbrev pub withTpr : Context → ℕ → Context
-withTpr c class = record { registers = c .registers; tpr = class; pending = c .pending; enabled = c .enabled; secure = c .secure; control = c .control }
+withTpr c class = record { registers = c .registers; tpr = class; pending = c .pending; secure = c .secure; control = c .control }
 
 abbrev pub withPending : Context → List ℕ → Context
-withPending c ps = record { registers = c .registers; tpr = c .tpr; pending = ps; enabled = c .enabled; secure = c .secure; control = c .control }
+withPending c ps = record { registers = c .registers; tpr = c .tpr; pending = ps; secure = c .secure; control = c .control }
 
 abbrev pub withSecure : Context → List ℕ → Context
-withSecure c ws = record { registers = c .registers; tpr = c .tpr; pending = c .pending; enabled = c .enabled; secure = ws; control = c .control }
+withSecure c ws = record { registers = c .registers; tpr = c .tpr; pending = c .pending; secure = ws; control = c .control }
 
 abbrev pub withControl : Context → Control → Context
-withControl c k = record { registers = c .registers; tpr = c .tpr; pending = c .pending; enabled = c .enabled; secure = c .secure; control = k }
+withControl c k = record { registers = c .registers; tpr = c .tpr; pending = c .pending; secure = c .secure; control = k }
 
--- The same for a processor and for the partition's part in a level.
+-- A processor with one field changed.
 abbrev pub withActive : VirtualProcessor → ℕ → VirtualProcessor
-withActive p l = record { active = level l; shared = p .shared; contexts = p .contexts }
+withActive p l = record { active = level l; enabled = p .enabled; shared = p .shared; contexts = p .contexts }
+
+abbrev pub withEnabled : VirtualProcessor → LevelSet → VirtualProcessor
+withEnabled p x = record { active = p .active; enabled = x; shared = p .shared; contexts = p .contexts }
 
 abbrev pub withShared : VirtualProcessor → List ℕ → VirtualProcessor
-withShared p rs = record { active = p .active; shared = rs; contexts = p .contexts }
+withShared p rs = record { active = p .active; enabled = p .enabled; shared = rs; contexts = p .contexts }
 
 abbrev pub withContexts : VirtualProcessor → List Context → VirtualProcessor
-withContexts p cs = record { active = p .active; shared = p .shared; contexts = cs }
+withContexts p cs = record { active = p .active; enabled = p .enabled; shared = p .shared; contexts = cs }
 
-abbrev pub withEnabled : PartitionLevel → Bool → PartitionLevel
-withEnabled x mbec = record { enabled = true; mbec = mbec; config = x .config }
+-- What the partition holds, with one field changed.
+abbrev pub withConfigs : Partition → List ℕ → Partition
+withConfigs x ws = record { enabled = x .enabled; mbec = x .mbec; configs = ws; masks = x .masks }
 
-abbrev pub withConfig : PartitionLevel → ℕ → PartitionLevel
-withConfig x w = record { enabled = x .enabled; mbec = x .mbec; config = w }
+abbrev pub withMasks : Partition → List ℕ → Partition
+withMasks x ks = record { enabled = x .enabled; mbec = x .mbec; configs = x .configs; masks = ks }
+
+-- A set of levels with level l or without it. Beyond M nothing is stored.
+unfoldable pub withLevel : Shape → LevelSet → ℕ → Bool → LevelSet
+withLevel z x l present = cond (isLevel z l) (levelSet (put l 1 (x .0) (cond present 1 0))) x
 
 -- One processor. Beyond M nothing is stored.
 unfoldable pub putContext : Shape → VirtualProcessor → ℕ → Context → VirtualProcessor
@@ -82,35 +91,48 @@ cleared (suc l) ws = let us = cleared l ws in stored 4 us l (put lockBit 1 (numb
 unfoldable pub unlocked : Shape → VirtualProcessor → ℕ → VirtualProcessor
 unlocked z p t = let c = context z p t in putContext z p t (withSecure c (cleared 4 (c .secure)))
 
--- The state.
-abbrev pub withVps : Machine → List VirtualProcessor → Machine
-withVps m ps = record { processors = m .processors; pages = m .pages; «host_mask» = m .«host_mask»; shape = m .shape; levels = m .levels; masks = m .masks; vps = ps }
+-- The partition. Level l is enabled, with MBEC or without.
+unfoldable pub enableLevel : Shape → Partition → ℕ → Bool → Partition
+enableLevel z x l mbec = record {
+  enabled = withLevel z (x .enabled) l true;
+  mbec = withLevel z (x .mbec) l mbec;
+  configs = x .configs;
+  masks = x .masks;
+}
 
-abbrev pub withLevels : Machine → List PartitionLevel → Machine
-withLevels m xs = record { processors = m .processors; pages = m .pages; «host_mask» = m .«host_mask»; shape = m .shape; levels = xs; masks = m .masks; vps = m .vps }
+unfoldable pub setConfig : Partition → ℕ → ℕ → Partition
+setConfig x l w = withConfigs x (stored 4 (x .configs) l w)
 
-abbrev pub withMasks : Machine → List ℕ → Machine
-withMasks m ks = record { processors = m .processors; pages = m .pages; «host_mask» = m .«host_mask»; shape = m .shape; levels = m .levels; masks = ks; vps = m .vps }
-
-unfoldable pub putVp : State → ℕ → VirtualProcessor → State
-putVp s v p = record { machine = withVps (s .machine) (stored 4 (s .machine .vps) v p); words = s .words }
-
-unfoldable pub putLevel : State → ℕ → PartitionLevel → State
-putLevel s l x = record { machine = withLevels (s .machine) (stored 4 (s .machine .levels) l x); words = s .words }
-
-unfoldable pub putMasks : State → List ℕ → State
-putMasks s ks = record { machine = withMasks (s .machine) ks; words = s .words }
-
-unfoldable pub setMask : State → ℕ → ℕ → ℕ → State
-setMask s l p k = putMasks s (stored 256 (s .machine .masks) (4 * p + l) k)
+unfoldable pub setMask : Partition → ℕ → ℕ → ℕ → Partition
+setMask x l p k = withMasks x (stored 256 (x .masks) (4 * p + l) k)
 
 -- Level l's mask of each page below P, among the first n and among all.
 unfoldable pub filled : ℕ → ℕ → ℕ → ℕ → List ℕ → List ℕ
 filled zero P l k ks = ks
 filled (suc p) P l k ks = let ns = filled p P l k ks in cond (ltb p P) (stored 256 ns (4 * p + l) k) ns
 
-unfoldable pub fillMasks : State → ℕ → ℕ → State
-fillMasks s l k = putMasks s (filled 64 (pages s) l k (s .machine .masks))
+unfoldable pub fillMasks : ℕ → Partition → ℕ → ℕ → Partition
+fillMasks P x l k = withMasks x (filled 64 P l k (x .masks))
+
+-- The state.
+abbrev pub withVps : Machine → List VirtualProcessor → Machine
+withVps m ps = record { processors = m .processors; pages = m .pages; «host_mask» = m .«host_mask»; shape = m .shape; partition = m .partition; vps = ps }
+
+abbrev pub withPartition : Machine → Partition → Machine
+withPartition m x = record { processors = m .processors; pages = m .pages; «host_mask» = m .«host_mask»; shape = m .shape; partition = x; vps = m .vps }
+
+unfoldable pub putVp : State → ℕ → VirtualProcessor → State
+putVp s v p = record { machine = withVps (s .machine) (stored 4 (s .machine .vps) v p); words = s .words }
+
+unfoldable pub putPartition : State → Partition → State
+putPartition s x = record { machine = withPartition (s .machine) x; words = s .words }
 
 unfoldable pub setWord : State → ℕ → ℕ → State
 setWord s p x = record { machine = s .machine; words = set (s .words) p x }
+
+-- A change of one processor's record, and of what the partition holds.
+unfoldable pub onVp : State → ℕ → (Shape → VirtualProcessor → VirtualProcessor) → State
+onVp s v f = putVp s v (f (shape s) (vp s v))
+
+unfoldable pub onPartition : State → (Shape → Partition → Partition) → State
+onPartition s f = putPartition s (f (shape s) (partition s))

@@ -7,12 +7,14 @@ use lib.ListN.{length}
 use Rattle.word.specs.Field.{field, bit}
 use Rattle.model.specs.declared.machine.Context.{Context}
 use Rattle.model.specs.declared.machine.Control.{Control}
+use Rattle.model.specs.declared.machine.Partition.{Partition}
+use Rattle.model.specs.declared.machine.Shape.{Shape}
 use Rattle.model.specs.declared.machine.VirtualProcessor.{VirtualProcessor}
 use Rattle.model.specs.Arrays.{numberAt}
 use Rattle.model.specs.Bounded.{every, allOf}
 use Rattle.model.specs.Masks.{validMask, kernelOnly, defaultMask, turnsOn, reservedSet, secureReservedSet}
 use Rattle.model.specs.Registers.{cr0, protectedBit, privateOf}
-use Rattle.model.specs.State.{State, processors, maxLevel, pages, isProcessor, shape, vp, context, partitionLevel, activeOf, enabledAt, enabledOn, enabledFor, mbecFor, maskOf, mbecBit}
+use Rattle.model.specs.State.{State, inRange, processors, maxLevel, pages, partition, inSet, isProcessor, shape, vp, context, activeOf, enabledAt, enabledFor, mbecFor, configOf, maskOf, mbecBit}
 
 -- If a then b.
 infix 20 _implies_
@@ -21,12 +23,7 @@ a implies b = not a || b
 
 -- V, M, P in range and exactly P words lent.
 unfoldable pub wellSized : State → Bool
-wellSized s = allOf (
-    leb 1 (processors s) ∷ leb (processors s) 4
-    ∷ leb (maxLevel s) 3
-    ∷ leb 1 (pages s) ∷ leb (pages s) 64
-    ∷ eqb (length (s .words)) (pages s)
-    ∷ [])
+wellSized s = inRange (processors s) (maxLevel s) (pages s) && eqb (length (s .words)) (pages s)
 
 -- An enabled level above 0 was entered from a lower enabled one (from 0 if its reason is 0), with reason 0..2. `fromOn` tells
 -- whether the level that its record names is enabled on the processor.
@@ -38,53 +35,61 @@ wellEntered l fromOn k = allOf (
     ∷ leb (k .reason) 2
     ∷ [])
 
--- What a processor holds of level l, where the partition has the level enabled and has MBEC for it as `on` and `mbec` tell. A
--- processor's enabled levels are within the partition's; its MBEC only where the partition has it for the setting level. TPR in
+-- What a processor holds of level l, where the partition has the level enabled as `on` tells, the processor as `enabled` does,
+-- and the partition has MBEC for it as `mbec` tells. A processor's enabled levels are within the partition's; its MBEC only where the partition has it for the setting level. TPR in
 -- range; pending vectors only 16..255 (0..15 are the low 16 bits of the first word) and only at enabled levels.
-unfoldable pub wellFormedContext : ℕ → Bool → Bool → Bool → Context → Bool
-wellFormedContext l on mbec fromOn c = allOf (
-    (c .enabled implies on)
-    ∷ ((ltb 0 l && c .enabled) implies wellEntered l fromOn (c .control))
+unfoldable pub wellFormedContext : ℕ → Bool → Bool → Bool → Bool → Context → Bool
+wellFormedContext l on enabled mbec fromOn c = allOf (
+    (enabled implies on)
+    ∷ ((ltb 0 l && enabled) implies wellEntered l fromOn (c .control))
     ∷ every l (λ j. not (secureReservedSet (numberAt 4 (c .secure) j)) && (bit (numberAt 4 (c .secure) j) mbecBit implies mbec))
     ∷ leb (c .tpr) 15
     ∷ eqb (field 0 16 (numberAt 4 (c .pending) 0)) 0
-    ∷ (c .enabled || every 4 (λ i. eqb (numberAt 4 (c .pending) i) 0))
+    ∷ (enabled || every 4 (λ i. eqb (numberAt 4 (c .pending) i) 0))
     ∷ [])
 
--- Level 0 is enabled everywhere; the active level is enabled.
-unfoldable pub wellFormedVp : State → VirtualProcessor → Bool
-wellFormedVp s p = let z = shape s in allOf (
-    enabledAt z p 0
+-- A processor, where the partition holds x: level 0 is enabled everywhere; the active level is enabled. (That an array of four has four entries holds of all that code
+-- lends; a list here may have any number of them.)
+unfoldable pub wellFormedVp : Shape → Partition → VirtualProcessor → Bool
+wellFormedVp z x p = allOf (
+    eqb (length (p .contexts)) 4
+    ∷ enabledAt z p 0
     ∷ enabledAt z p (activeOf p)
-    ∷ every 4 (λ l. let c = context z p l in wellFormedContext l (enabledFor s l) (mbecFor s l) (enabledAt z p (c .control .from .0)) c)
+    ∷ every 4 (λ l. let c = context z p l in
+    wellFormedContext l (inSet z (x .enabled) l) (enabledAt z p l) (inSet z (x .mbec) l) (enabledAt z p (c .control .from .0)) c)
     ∷ [])
 
--- What the partition holds of level l above 0: all masks valid, the default mask too; reserved configuration bits 0;
+-- What the partition holds of level l above 0, its masks, its word, whether it is enabled and whether it has MBEC: all masks valid, the default mask too; reserved configuration bits 0;
 -- protections and MBEC only for enabled levels; no page or default mask with KMX and no UMX where the partition has MBEC for the
 -- level and protections are on.
-unfoldable pub wellFormedLevel : State → ℕ → Bool
-wellFormedLevel s l = let x = partitionLevel s l in allOf (
-    every 64 (λ p. validMask (maskOf s l p))
-    ∷ validMask (defaultMask (x .config))
-    ∷ not (reservedSet (x .config))
-    ∷ (turnsOn (x .config) implies x .enabled)
-    ∷ (x .mbec implies x .enabled)
-    ∷ ((x .mbec && turnsOn (x .config)) implies (not (kernelOnly (defaultMask (x .config))) && every 64 (λ p. not (kernelOnly (maskOf s l p)))))
+abbrev pub wellFormedLevelBy : (ℕ → ℕ) → ℕ → Bool → Bool → Bool
+wellFormedLevelBy mask word enabled mbec = allOf (
+    every 64 (λ p. validMask (mask p))
+    ∷ validMask (defaultMask word)
+    ∷ not (reservedSet word)
+    ∷ (turnsOn word implies enabled)
+    ∷ (mbec implies enabled)
+    ∷ ((mbec && turnsOn word) implies (not (kernelOnly (defaultMask word)) && every 64 (λ p. not (kernelOnly (mask p)))))
     ∷ [])
+
+unfoldable pub wellFormedLevel : State → ℕ → Bool
+wellFormedLevel s l = wellFormedLevelBy (maskOf s l) (configOf s l) (enabledFor s l) (mbecFor s l)
 
 -- All that reads no private register: each processor and each level above 0, the host's mask, and no MBEC for level 0.
 unfoldable pub wellFormedParts : State → Bool
 wellFormedParts s = allOf (
-    every 4 (λ v. isProcessor s v implies wellFormedVp s (vp s v))
+    every 4 (λ v. isProcessor s v implies wellFormedVp (shape s) (partition s) (vp s v))
     ∷ every 3 (λ i. wellFormedLevel s (suc i))
     ∷ validMask (s .machine .«host_mask»)
     ∷ not (mbecFor s 0)
     ∷ [])
 
 -- An enabled level above 0 has CR0 bit 0 set: no real mode there.
+unfoldable pub wellModedVp : Shape → VirtualProcessor → Bool
+wellModedVp z p = every 4 (λ l. (ltb 0 l && enabledAt z p l) implies bit (privateOf z p l cr0) protectedBit)
+
 unfoldable pub wellModed : State → Bool
-wellModed s = every 4 (λ v. every 4 (λ l.
-    (ltb 0 l && enabledOn s v l) implies bit (privateOf (shape s) (vp s v) l cr0) protectedBit))
+wellModed s = every 4 (λ v. wellModedVp (shape s) (vp s v))
 
 unfoldable pub wellFormed : State → Bool
 wellFormed s = wellSized s && wellFormedParts s && wellModed s

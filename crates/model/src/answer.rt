@@ -10,12 +10,22 @@ pub enum Answer {
     Intercept(Level),
 }
 
-// A case for each condition that a rule states; specs/Answers.antt has the number of each.
+// A case for each condition that 01 states; specs/Answers.antt has the number of each.
 pub enum Refusal {
-    // a line that says no event; a state that is not well formed
-    Malformed,
-    // a processor of the machine is not named
+    // a line above 256 bytes
+    LineTooLong,
+    // a line whose first field is no event's word
+    UnknownWord,
+    // a line with another number of fields than its event has
+    WrongFieldCount,
+    // a field that is no decimal number from 0 to 2^64-1
+    NotANumber,
+    // the state is not well formed
+    NotWellFormed,
+    // v is not one of the processors
     NoSuchProcessor,
+    // w is not one of the processors
+    NoSuchTarget,
     // the mode is neither 0 nor 1
     NoSuchMode,
     // a level above 15
@@ -24,30 +34,30 @@ pub enum Refusal {
     MbecOutOfRange,
     // an instruction's length that is not one of 1 to 15
     LengthOutOfRange,
-    // a class above 15
+    // a TPR class above 15
     ClassOutOfRange,
     // a vector that is not one of 16 to 255
     VectorOutOfRange,
     // a register above 31
     NoSuchRegister,
-    // a page of the machine is not named
+    // p is not one of the pages
     NoSuchPage,
-    // a mask that 001 does not allow
+    // a mask that is neither 0 nor has Read
     InvalidMask,
     // a reserved bit of a configuration word is set
     ReservedBits,
-    // a CR0 with bit 0 clear for a level that must be in protected mode
-    RealModeGiven,
+    // a value for CR0 with bit 0 clear, for a level above 0
+    Cr0InRealMode,
     // user mode for anything but read, write, fetch
     UserMode,
-    // call: the actor's CR0 bit 0 is clear
-    RealMode,
+    // call: the actor is in real mode, its CR0 bit 0 is clear
+    CallInRealMode,
     // call: RCX is not 0
     RcxNotZero,
     // call: no higher level is enabled on the processor
     NoHigherLevel,
     // ret: level 0 is active
-    AtLevelZero,
+    ReturnAtLevelZero,
     // ret: RCX is above 1
     RcxAboveOne,
     // level 0 where a level above 0 is needed
@@ -60,16 +70,16 @@ pub enum Refusal {
     TargetAbove,
     // secure: the target is not below the actor
     TargetNotBelow,
-    // protect: level 0 has no level below it
-    NothingBelow,
+    // protect: level 0 is active
+    ProtectAtLevelZero,
     // enpart: the target is enabled for the partition
     EnabledForPartition,
     // envp: the target is enabled on the processor
     EnabledOnProcessor,
     // the target is not enabled for the partition
-    NotForPartition,
+    NotEnabledForPartition,
     // the target is not enabled on the processor
-    NotOnProcessor,
+    NotEnabledOnProcessor,
     // protect: the actor's protections are off
     ProtectionsOff,
     // secure: the partition has no MBEC for the actor
@@ -87,7 +97,7 @@ pub enum Refusal {
     // flush: a level above the actor holds a TLB lock on it
     TlbLocked,
     // ack: no vector is ready
-    NoneReady,
+    NoReadyVector,
     // ack: RFLAGS bit 9 is clear
-    InterruptsOff,
+    InterruptFlagClear,
 }

@@ -3,5 +3,6 @@
 pub mod answer; // what an event is answered
 pub mod event; // the nineteen events
 pub mod machine; // the state
-pub mod quantity; // level, processor index and page number
+pub mod quantity; // level, processor index, page number, mode and kind of access
+pub mod register; // the registers that a rule names
 pub mod set; // sets of levels as numbers

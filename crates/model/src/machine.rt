@@ -2,11 +2,12 @@
 // words that are lent (crates `processor`, `partition`, `state`). The words of the pages are lent too.
 // What lies beyond the number of processors, the maximum level or the number of pages is no part of a state.
 use crate::quantity::Level;
+use crate::set::LevelSet;
 
 // The first line of a script: what a fresh machine is made from.
 pub struct FirstLine {
     pub processors: u64,
-    pub max_level: u64,
+    pub max_level: Level,
     pub pages: u64,
     pub dr6_shared: u64,
     pub host_mask: u64,
@@ -17,6 +18,19 @@ pub struct Shape {
     pub max_level: Level,
     pub dr6_shared: bool,
 }
+
+// What stays the same in a run.
+pub struct Setup {
+    pub processors: u64,
+    pub pages: u64,
+    pub host_mask: u64,
+    pub shape: Shape,
+}
+
+// The reasons for which a level is entered: a VTL call, and an interrupt or an intercept.
+pub const BY_CALL: u64 = 1;
+
+pub const BY_INTERRUPT: u64 = 2;
 
 // The control record of a level above 0: why it was entered, from which level, and RAX and RCX at that time.
 pub struct Control {
@@ -33,7 +47,6 @@ pub struct Context {
     pub tpr: u64,
     // Vector 64 i + j is pending where bit j of word i is set.
     pub pending: [u64; 4],
-    pub enabled: bool,
     // This level's configuration of each lower level: bit 0 MBEC, bit 1 TLB lock.
     pub secure: [u64; 4],
     pub control: Control,
@@ -41,16 +54,22 @@ pub struct Context {
 
 pub struct VirtualProcessor {
     pub active: Level,
+    // The levels that are enabled on the processor.
+    pub enabled: LevelSet,
     // Registers 12 to 31. The first, DR6, is in use only where it is shared.
     pub shared: [u64; 20],
     pub contexts: [Context; 4],
 }
 
-// What the partition holds of one level.
-pub struct PartitionLevel {
-    pub enabled: bool,
-    pub mbec: bool,
-    pub config: u64,
+// What the partition holds of its levels.
+pub struct Partition {
+    // The levels that are enabled for the partition, and those that it has MBEC for.
+    pub enabled: LevelSet,
+    pub mbec: LevelSet,
+    // The configuration word of each level. Level 0 has none.
+    pub configs: [u64; 4],
+    // The protection mask of level l for page p stands at 4 p + l.
+    pub masks: [u64; 256],
 }
 
 pub struct Machine {
@@ -58,8 +77,6 @@ pub struct Machine {
     pub pages: u64,
     pub host_mask: u64,
     pub shape: Shape,
-    pub levels: [PartitionLevel; 4],
-    // The protection mask of level l for page p stands at 4 p + l.
-    pub masks: [u64; 256],
+    pub partition: Partition,
     pub vps: [VirtualProcessor; 4],
 }

@@ -8,7 +8,7 @@ use Rattle.model.proofs.Bounded.{every-and}
 use Rattle.model.specs.Bounded.{every, allOf}
 use Rattle.model.specs.Masks.{validMask, kernelOnly}
 use Rattle.model.specs.WellFormed.{_implies_}
-use Rattle.partition.specs.Parts.{maskPasses}
+use Rattle.partition.specs.Denying.{maskPasses}
 
 -- A test that is made only where the level is strict.
 every-strict : (strict : Bool) (n : ℕ) (f : ℕ → Bool) → every n (λ i. strict implies f i) ≡ (strict implies every n f)

@@ -1,6 +1,6 @@
--- The laws of `partition`, which other crates cite. The other folders here prove the functions of src/. Assumes nothing.
-pub mod Readings  -- what is read from the parts and stored in an array
-pub mod Words  -- the levels' records in six words
-pub mod Counted  -- loops that count up
+-- The laws that the proofs of `partition` and of the crates above it cite.
+pub mod MaskPlaces  -- masks and stores, case by case
+pub mod PartitionWords  -- the words of the levels
+pub mod DenyingLevels  -- the set of the denying levels, of a state
+pub mod Counted  -- loops that count up to a bound
 pub mod Clauses  -- the clauses of a well-formed level
-pub mod Joins  -- the definitions over the parts are the model's over a state

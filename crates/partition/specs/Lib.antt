@@ -1,3 +1,3 @@
--- The definitions of `partition`: the model's, read from the parts of a state that the code is given. Assumes nothing.
-pub mod Levels  -- the levels' records in six words
-pub mod Parts  -- the rules over the parts
+-- What the partition holds in lent words, and the sets of levels that the access decision goes by. Assumes nothing.
+pub mod PartitionView  -- the record that the lent words stand for
+pub mod Denying  -- the levels that deny an access, as a set

@@ -1,111 +1,144 @@
 // The access decision (01, "Memory"): the bit that an access needs, the levels that deny it, the one that receives the intercept,
-// and the host. Bit t of a set of levels stands for level t.
+// and the host.
 ghost use mathlib.Core.Path.{_≡_};
 ghost use mathlib.Core.Bool.{_&&_};
 ghost use Rattle.word.specs.Field.{bit};
-ghost use Rattle.model.specs.Memory.{needed as neededBit};
-ghost use Rattle.partition.specs.Levels.{levelsOf};
-ghost use Rattle.partition.specs.Parts.{deniesIn, denyingSet, lowestOf, hostDeniesBy};
+ghost use Rattle.model.specs.Memory.{needed as neededBit, deniesIn, hostDeniesBy};
+ghost use Rattle.partition.specs.Denying.{denyingSet, lowestIn};
+ghost use Rattle.partition.specs.PartitionView.{partitionOf};
 use crate::level::Levels;
 use crate::level::protects_at;
+use crate::mask::KMX_BIT;
+use crate::mask::Masks;
+use crate::mask::READ_BIT;
+use crate::mask::UMX_BIT;
+use crate::mask::WRITE_BIT;
 use crate::mask::mask_at;
 use model::machine::Shape;
 use model::quantity::Access;
 use model::quantity::Level;
+use model::quantity::Mode;
+use model::quantity::NO_LEVEL;
 use model::quantity::Page;
+use model::quantity::is_user;
+use model::set::LevelSet;
+use model::set::in_set;
 use model::set::level_set;
 use word::field::has_bit;
 
+// An access that a level attempts.
+pub struct Attempt {
+    pub actor: Level,
+    pub mode: Mode,
+    pub page: Page,
+    pub access: Access,
+}
+
 // The number of the mask's bit that an access needs: Read, Write, or for a fetch KMX, unless MBEC is on, where a fetch in user
 // mode needs UMX instead.
-pub fn needed(mbec: bool, mode: u64, access: Access) -> u32
+pub fn needed(mbec: bool, mode: Mode, access: Access) -> u32
     ensures { λ r. ⌜ r ≡ neededBit mbec mode access ⌝ }
 {
+    let user = is_user(mode);
     match access {
-        Access::Read => 0,
-        Access::Write => 1,
-        Access::Fetch => { if mbec & (mode == 1) { 3 } else { 2 } }
+        Access::Read => READ_BIT,
+        Access::Write => WRITE_BIT,
+        Access::Fetch => { if mbec & user { UMX_BIT } else { KMX_BIT } }
     }
 }
 
-// Does level `t` deny an access to page `p` by level `l`?
+// Does a level deny an attempt, with MBEC on for it and the actor or not?
 fn denies(
-    z: Shape,
+    shape: Shape,
     pages: u64,
     levels: &Levels,
-    masks: &[u64; 256],
-    mbecs: u64,
-    l: Level,
-    mode: u64,
-    p: Page,
-    access: Access,
-    t: u32,
+    masks: &Masks,
+    attempt: Attempt,
+    level: Level,
+    mbec: bool,
 ) -> bool
-    ensures { λ r. ⌜ r ≡ deniesIn z pages (levelsOf (now (levels .entry))) (now (masks .entry)) mbecs (l .0) mode (p .0) access t ⌝ }
+    ensures { λ r. ⌜ r ≡ deniesIn shape pages (partitionOf (now (levels .entry)) (now (masks .entry)))
+        (attempt .actor .0) (attempt .mode) (attempt .page .0) (attempt .access) (level .0) mbec ⌝ }
 {
-    let actor = l.0;
-    let number = t as u64;
-    let level = Level(number);
-    let on = protects_at(z, levels, level);
-    let mask = mask_at(z, pages, masks, level, p);
-    let mbec = has_bit(mbecs, t);
+    let mode = attempt.mode;
+    let access = attempt.access;
+    let on = protects_at(shape, levels, level);
+    let mask = mask_at(shape, pages, masks, level, attempt.page);
     let allowed = has_bit(mask, needed(mbec, mode, access));
-    (actor < number) & on & !allowed
+    (attempt.actor.0 < level.0) & on & !allowed
 }
 
-// The set of the levels that deny an access to page `p` by level `l`, in a mode, 0 kernel or 1 user. Bit t of `mbecs` tells
-// whether MBEC is on for level t and `l` on the processor.
+// The levels that deny an attempt. `mbecs` are those that have MBEC on for the actor on its processor.
 pub fn denying_set(
-    z: Shape,
+    shape: Shape,
     pages: u64,
     levels: &Levels,
-    masks: &[u64; 256],
-    mbecs: u64,
-    l: Level,
-    mode: u64,
-    p: Page,
-    access: Access,
-) -> u64
-    ensures { λ r. ⌜ r ≡ denyingSet z pages (levelsOf (now (levels .entry))) (now (masks .entry)) mbecs (l .0) mode (p .0) access ⌝ }
+    masks: &Masks,
+    mbecs: LevelSet,
+    attempt: Attempt,
+) -> LevelSet
+    ensures { λ r. ⌜ r .0 ≡ denyingSet shape pages (partitionOf (now (levels .entry)) (now (masks .entry))) mbecs attempt ⌝ }
 {
-    let first = denies(z, pages, levels, masks, mbecs, l, mode, p, access, 1);
-    let second = denies(z, pages, levels, masks, mbecs, l, mode, p, access, 2);
-    let third = denies(z, pages, levels, masks, mbecs, l, mode, p, access, 3);
+    let first = denies(
+        shape,
+        pages,
+        levels,
+        masks,
+        attempt,
+        Level(1),
+        has_bit(mbecs.0, 1),
+    );
+    let second = denies(
+        shape,
+        pages,
+        levels,
+        masks,
+        attempt,
+        Level(2),
+        has_bit(mbecs.0, 2),
+    );
+    let third = denies(
+        shape,
+        pages,
+        levels,
+        masks,
+        attempt,
+        Level(3),
+        has_bit(mbecs.0, 3),
+    );
     level_set(false, first, second, third)
 }
 
-// Is level `t` in both sets?
-fn in_both(set: u64, enabled: u64, t: u32) -> bool
-    ensures { λ r. ⌜ r ≡ (bit set t && bit enabled t) ⌝ }
+// Is a level in both sets?
+fn in_both(set: LevelSet, other: LevelSet, level: Level) -> bool
+    ensures { λ r. ⌜ r ≡ (bit (set .0) (level .0) && bit (other .0) (level .0)) ⌝ }
 {
-    let member = has_bit(set, t);
-    let on = has_bit(enabled, t);
-    member & on
+    in_set(set, level) & in_set(other, level)
 }
 
-// The lowest level of a set that is among the enabled ones; 4 if there is none. Of the denying levels, it receives the intercept.
-pub fn lowest(set: u64, enabled: u64) -> u64
-    ensures { λ r. ⌜ r ≡ lowestOf set enabled ⌝ }
+// The lowest level that is in both sets; NO_LEVEL if there is none. Of the denying levels that are enabled, it receives the intercept.
+pub fn lowest(set: LevelSet, enabled: LevelSet) -> Level
+    ensures { λ r. ⌜ r .0 ≡ lowestIn (set .0) (enabled .0) ⌝ }
 {
-    if in_both(set, enabled, 0) {
-        return 0;
+    if in_both(set, enabled, Level(0)) {
+        return Level(0);
     }
-    if in_both(set, enabled, 1) {
-        return 1;
+    if in_both(set, enabled, Level(1)) {
+        return Level(1);
     }
-    if in_both(set, enabled, 2) {
-        return 2;
+    if in_both(set, enabled, Level(2)) {
+        return Level(2);
     }
-    if in_both(set, enabled, 3) {
-        return 3;
+    if in_both(set, enabled, Level(3)) {
+        return Level(3);
     }
-    4
+    Level(NO_LEVEL)
 }
 
-// Does the host deny an access by its mask `mask`? The host needs Read, Write or KMX.
+// Does the host deny an access by its mask? The host needs Read, Write or KMX.
 pub fn host_denies(mask: u64, access: Access) -> bool
     ensures { λ r. ⌜ r ≡ hostDeniesBy mask access ⌝ }
 {
-    let allowed = has_bit(mask, needed(false, 0, access));
+    let allowed = has_bit(mask, needed(false, Mode::Kernel, access));
     !allowed
 }

@@ -1,2 +1,3 @@
--- How a processor's record is kept in words. Assumes nothing.
+-- How a virtual processor's record (01, "The bench model") is kept in words. The rules themselves are definitions of crate
+-- `model`. Assumes nothing.
 pub mod Record

@@ -2,106 +2,118 @@
 // and the start of a level.
 ghost use mathlib.Core.Path.{_≡_};
 ghost use Prim.Native.Nat.{_<_};
-ghost use lib.ListN.{getD, length, set};
-ghost use Rattle.word.specs.Field.{put};
+ghost use lib.ListN.{length};
 ghost use Rattle.model.specs.Entry.{started};
 ghost use Rattle.model.specs.State.{context};
-ghost use Rattle.model.specs.Updates.{withControl, putContext};
-ghost use Rattle.processor.specs.Record.{Within, rowOf, vpOf};
+ghost use Rattle.processor.specs.Record.{Within, recordWords, levelEnabled, rowOf, vpOf, controlSet, startedRow};
+use crate::record::ENABLED;
+use crate::record::FROM;
+use crate::record::LEVEL_WORDS;
+use crate::record::LEVELS;
+use crate::record::REASON;
 use crate::record::Record;
-use crate::record::is_level;
+use crate::record::SAVED_RAX;
+use crate::record::SAVED_RCX;
+use crate::record::SECURE;
 use crate::record::level_word;
 use crate::record::set_level_word;
+use crate::record::with_bit;
 use model::machine::Control;
 use model::machine::Shape;
 use model::quantity::Level;
+use model::register::CR0;
+use model::register::RIP;
+use model::register::RSP;
+use model::set::is_level;
 
-// The control record of level l; the empty one beyond M.
-pub fn control_of(z: Shape, p: &Record, l: u64) -> Control
-    ensures { λ r. ⌜ r ≡ context z (vpOf (now (p .entry))) l .control ⌝ }
+// Where a level starts: what envp gives of 001's HV_INITIAL_VP_CONTEXT.
+pub struct InitialContext {
+    pub rip: u64,
+    pub rsp: u64,
+    pub cr0: u64,
+}
+
+// The row of words of a level.
+type Row = [u64; LEVEL_WORDS as usize];
+
+// The control record of a level; the empty one beyond M.
+pub fn control_of(shape: Shape, vp: &Record, level: Level) -> Control
+    ensures { λ r. ⌜ r ≡ context shape (vpOf (now (vp .entry))) (level .0) .control ⌝ }
 {
     Control {
-        reason: level_word(z, p, l, 22),
-        from: Level(level_word(z, p, l, 23)),
-        rax: level_word(z, p, l, 24),
-        rcx: level_word(z, p, l, 25),
+        reason: level_word(shape, vp, level, REASON),
+        from: Level(level_word(shape, vp, level, FROM)),
+        rax: level_word(shape, vp, level, SAVED_RAX),
+        rcx: level_word(shape, vp, level, SAVED_RCX),
     }
 }
 
-// Sets the control record of level l.
-pub fn set_control(z: Shape, p: &mut Record, l: u64, k: Control)
-    ensures { λ _. ⌜ vpOf (now (p .exit)) ≡ putContext z (vpOf (now (p .entry))) l (withControl (context z (vpOf (now (p .entry))) l) k) ⌝ }
+// Sets the control record of a level.
+pub fn set_control(shape: Shape, vp: &mut Record, level: Level, control: Control)
+    ensures { λ _. ⌜ vpOf (now (vp .exit)) ≡ controlSet shape (vpOf (now (vp .entry))) (level .0) control ⌝ }
 {
-    set_level_word(z, p, l, 22, k.reason);
-    set_level_word(z, p, l, 23, k.from.0);
-    set_level_word(z, p, l, 24, k.rax);
-    set_level_word(z, p, l, 25, k.rcx);
+    set_level_word(shape, vp, level, REASON, control.reason);
+    set_level_word(shape, vp, level, FROM, control.from.0);
+    set_level_word(shape, vp, level, SAVED_RAX, control.rax);
+    set_level_word(shape, vp, level, SAVED_RCX, control.rcx);
 }
 
-// Puts 26 words into the row of level l.
-fn set_row(p: &mut Record, l: u64, row: [u64; 26])
-    requires { ⌜ l < 4 ⌝ }
-    ensures row { λ _. ⌜ rowOf (now (p .exit)) l ≡ row ⌝ }
-    ensures rest { λ _. ⌜ Within l (now (p .entry)) (now (p .exit)) ⌝ }
+// Puts a row of words into the place of a level's.
+fn set_row(vp: &mut Record, level: Level, row: Row)
+    requires { ⌜ level .0 < 4 ⌝ }
+    ensures row { λ _. ⌜ rowOf (now (vp .exit)) (level .0) ≡ row ⌝ }
+    ensures rest { λ _. ⌜ Within (level .0) (now (vp .entry)) (now (vp .exit)) ⌝ }
 {
-    let words: &mut [u64] = p;
-    let from = (22 + 26 * l) as usize;
-    let mut k: usize = 0;
-    while k < 26 {
-        words[from + k] = row[k];
-        k += 1;
+    let words: &mut [u64] = vp;
+    let number = level.0;
+    let start = (LEVELS + LEVEL_WORDS * number) as usize;
+    let mut offset: usize = 0;
+    while offset < LEVEL_WORDS as usize {
+        words[start + offset] = row[offset];
+        offset += 1;
     }
 }
 
-// Adds level l to the set of the enabled levels.
-fn enable(p: &mut Record, l: u64)
-    requires { ⌜ l < 4 ⌝ }
-    ensures { λ _. ⌜ now (p .exit) ≡ set (now (p .entry)) 1 (put l 1 (getD (now (p .entry)) 1 0) 1) ⌝ }
-    ensures size { λ _. ⌜ length (now (p .entry)) ≡ 126 ⌝ }
+// Adds a level to the set of the enabled levels.
+fn enable(vp: &mut Record, level: Level)
+    requires { ⌜ level .0 < 4 ⌝ }
+    ensures enabled { λ _. ⌜ now (vp .exit) ≡ levelEnabled (now (vp .entry)) (level .0) ⌝ }
+    ensures size { λ _. ⌜ length (now (vp .entry)) ≡ recordWords ⌝ }
 {
-    let words: &mut [u64] = p;
-    words[1] = word::field::put(words[1], l as u32, 1, 1);
+    let words: &mut [u64] = vp;
+    words[ENABLED] = with_bit(words[ENABLED], level.0, 1);
 }
 
-// envp: makes level t enabled, with RIP, RSP and CR0 as given, its other private registers 0, TPR 0, nothing pending, and an
+// The row of a level that starts: RIP, RSP and CR0 as given, the configuration of lower levels as it was, and 0 elsewhere.
+fn started_row(initial: InitialContext, zero: u64, one: u64, two: u64, three: u64) -> Row
+    ensures { λ r. ⌜ r ≡ startedRow (initial .rip) (initial .rsp) (initial .cr0) zero one two three ⌝ }
+{
+    let mut row = [0; LEVEL_WORDS as usize];
+    row[RIP as usize] = initial.rip;
+    row[RSP as usize] = initial.rsp;
+    row[CR0 as usize] = initial.cr0;
+    row[SECURE as usize] = zero;
+    row[SECURE as usize + 1] = one;
+    row[SECURE as usize + 2] = two;
+    row[SECURE as usize + 3] = three;
+    row
+}
+
+// envp: makes the target enabled, with RIP, RSP and CR0 as given, its other private registers 0, TPR 0, nothing pending, and an
 // empty control record. What it holds of lower levels stays.
-pub fn start(z: Shape, p: &mut Record, t: u64, ip: u64, sp: u64, cr: u64)
-    ensures { λ _. ⌜ vpOf (now (p .exit)) ≡ started z (vpOf (now (p .entry))) t ip sp cr ⌝ }
+pub fn start(shape: Shape, vp: &mut Record, target: Level, initial: InitialContext)
+    ensures { λ _. ⌜ vpOf (now (vp .exit))
+        ≡ started shape (vpOf (now (vp .entry))) (target .0) (initial .rip) (initial .rsp) (initial .cr0) ⌝ }
 {
-    if is_level(z, t) {
-        let zero = level_word(z, p, t, 18);
-        let one = level_word(z, p, t, 19);
-        let two = level_word(z, p, t, 20);
-        let three = level_word(z, p, t, 21);
-        let row = [
-            ip,
-            sp,
-            0,
-            cr,
-            0,
-            0,
-            0,
-            0,
-            0,
-            0,
-            0,
-            0,
-            0,
-            0,
-            0,
-            0,
-            0,
-            0,
-            zero,
-            one,
-            two,
-            three,
-            0,
-            0,
-            0,
-            0,
-        ];
-        set_row(p, t, row);
-        enable(p, t);
+    if is_level(shape, target) {
+        let row = started_row(
+            initial,
+            level_word(shape, vp, target, SECURE),
+            level_word(shape, vp, target, SECURE + 1),
+            level_word(shape, vp, target, SECURE + 2),
+            level_word(shape, vp, target, SECURE + 3),
+        );
+        set_row(vp, target, row);
+        enable(vp, target);
     }
 }

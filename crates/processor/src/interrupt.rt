@@ -1,97 +1,101 @@
 // Interrupt vectors of a level (01, "Events": tpr, ack, int): which are pending, which are ready, and the highest that is both.
-// RFLAGS.IF plays no part in any of it.
+// A vector is ready where its class, vector / 16, is above the level's TPR class. RFLAGS.IF plays no part in any of it.
 ghost use mathlib.Core.Path.{_≡_};
-ghost use Prim.Native.Nat.{_%_};
-ghost use Rattle.word.specs.Field.{put};
 ghost use Rattle.model.specs.Entry.{isReady, highestReady, enters};
 ghost use Rattle.model.specs.State.{context};
 ghost use Rattle.model.specs.Updates.{setPending, setTpr};
 ghost use Rattle.processor.specs.Record.{vpOf, vectorsOf};
+use crate::record::PENDING;
 use crate::record::Record;
+use crate::record::TPR;
 use crate::record::active_of;
 use crate::record::level_word;
+use crate::record::set_level_bit;
 use crate::record::set_level_word;
 use model::machine::Shape;
+use model::quantity::Level;
 use word::field::has_bit;
 use word::field::take;
 
-// Is vector n ready at level l: is its class, n / 16, above the level's TPR class?
-pub fn is_ready(z: Shape, p: &Record, l: u64, n: u64) -> bool
-    ensures { λ r. ⌜ r ≡ isReady (context z (vpOf (now (p .entry))) l) n ⌝ }
+// There are 256 vectors, 16 to a class and 64 to a word of pending vectors, of which there are four.
+const VECTORS: u64 = 256;
+
+const CLASS_VECTORS: u64 = 16;
+
+const WORD_VECTORS: u64 = 64;
+
+const PENDING_WORDS: u64 = 4;
+
+// Is the vector ready at the level?
+pub fn is_ready(shape: Shape, vp: &Record, level: Level, vector: u64) -> bool
+    ensures { λ r. ⌜ r ≡ isReady (context shape (vpOf (now (vp .entry))) (level .0)) vector ⌝ }
 {
-    level_word(z, p, l, 13) < n / 16
+    level_word(shape, vp, level, TPR) < vector / CLASS_VECTORS
 }
 
 // The highest vector that is pending and ready; 0 if none is. Words and classes with nothing pending are passed over whole.
-fn highest_in(tpr: u64, pending: [u64; 4]) -> u64
+fn highest_in(tpr: u64, pending: [u64; PENDING_WORDS as usize]) -> u64
     ensures { λ r. ⌜ r ≡ highestReady (vectorsOf tpr pending) ⌝ }
 {
-    let mut n: u64 = 256;
-    while n > 0 {
-        let last = n - 1;
-        if last / 16 <= tpr {
+    let mut end: u64 = VECTORS;
+    while end > 0 {
+        let last = end - 1;
+        if last / CLASS_VECTORS <= tpr {
             return 0;
         }
-        let i = (last / 64) as usize;
+        let i = (last / WORD_VECTORS) as usize;
         let word = pending[i];
         if word == 0 {
-            n = last / 64 * 64;
+            end = last / WORD_VECTORS * WORD_VECTORS;
             continue;
         }
-        if take(word, (last % 64 / 16 * 16) as u32, 16) == 0 {
-            n = last / 16 * 16;
+        let class_start = last % WORD_VECTORS / CLASS_VECTORS * CLASS_VECTORS;
+        if take(word, class_start as u32, CLASS_VECTORS as u32) == 0 {
+            end = last / CLASS_VECTORS * CLASS_VECTORS;
             continue;
         }
-        if has_bit(word, (last % 64) as u32) {
+        if has_bit(word, (last % WORD_VECTORS) as u32) {
             return last;
         }
-        n = last;
+        end = last;
     }
     0
 }
 
-// The same of level l.
-pub fn highest_ready(z: Shape, p: &Record, l: u64) -> u64
-    ensures { λ r. ⌜ r ≡ highestReady (context z (vpOf (now (p .entry))) l) ⌝ }
+// The same of a level.
+pub fn highest_ready(shape: Shape, vp: &Record, level: Level) -> u64
+    ensures { λ r. ⌜ r ≡ highestReady (context shape (vpOf (now (vp .entry))) (level .0)) ⌝ }
 {
-    let tpr = level_word(z, p, l, 13);
-    let zero = level_word(z, p, l, 14);
-    let one = level_word(z, p, l, 15);
-    let two = level_word(z, p, l, 16);
-    let three = level_word(z, p, l, 17);
+    let tpr = level_word(shape, vp, level, TPR);
+    let zero = level_word(shape, vp, level, PENDING);
+    let one = level_word(shape, vp, level, PENDING + 1);
+    let two = level_word(shape, vp, level, PENDING + 2);
+    let three = level_word(shape, vp, level, PENDING + 3);
     highest_in(tpr, [zero, one, two, three])
 }
 
-// The word with bit i % 64 made the low bit of x.
-fn with_bit(word: u64, i: u64, x: u64) -> u64
-    ensures { λ r. ⌜ r ≡ put (i % 64) 1 word x ⌝ }
+// Makes a vector of a level pending where the value is 1, and takes it away where it is 0.
+pub fn set_pending(shape: Shape, vp: &mut Record, level: Level, vector: u64, value: u64)
+    ensures { λ _. ⌜ vpOf (now (vp .exit)) ≡ setPending shape (vpOf (now (vp .entry))) (level .0) vector value ⌝ }
 {
-    word::field::put(word, (i % 64) as u32, 1, x)
-}
-
-// Makes vector n of level l pending where x is 1, and takes it away where x is 0.
-pub fn set_pending(z: Shape, p: &mut Record, l: u64, n: u64, x: u64)
-    ensures { λ _. ⌜ vpOf (now (p .exit)) ≡ setPending z (vpOf (now (p .entry))) l n x ⌝ }
-{
-    let k = n / 64;
-    if k >= 4 {
+    let word = vector / WORD_VECTORS;
+    if word >= PENDING_WORDS {
         return;
     }
-    let word = level_word(z, p, l, 14 + k);
-    set_level_word(z, p, l, 14 + k, with_bit(word, n, x));
+    set_level_bit(shape, vp, level, PENDING + word, vector, value);
 }
 
-// tpr: sets the class of level l.
-pub fn set_tpr(z: Shape, p: &mut Record, l: u64, class: u64)
-    ensures { λ _. ⌜ vpOf (now (p .exit)) ≡ setTpr z (vpOf (now (p .entry))) l class ⌝ }
+// tpr: sets the class of a level.
+pub fn set_tpr(shape: Shape, vp: &mut Record, level: Level, class: u64)
+    ensures { λ _. ⌜ vpOf (now (vp .exit)) ≡ setTpr shape (vpOf (now (vp .entry))) (level .0) class ⌝ }
 {
-    set_level_word(z, p, l, 13, class);
+    set_level_word(shape, vp, level, TPR, class);
 }
 
-// int: is level g entered, being above the active level, with the vector ready?
-pub fn enters(z: Shape, p: &Record, g: u64, n: u64) -> bool
-    ensures { λ r. ⌜ r ≡ enters z (vpOf (now (p .entry))) g n ⌝ }
+// int: is the target entered, being above the active level, with the vector ready?
+pub fn enters(shape: Shape, vp: &Record, target: Level, vector: u64) -> bool
+    ensures { λ r. ⌜ r ≡ enters shape (vpOf (now (vp .entry))) (target .0) vector ⌝ }
 {
-    let ready = is_ready(z, p, g, n);
-    (active_of(p) < g) & ready
+    let ready = is_ready(shape, vp, target, vector);
+    (active_of(vp).0 < target.0) & ready
 }

@@ -1,83 +1,100 @@
-// The secure configuration that a level holds for each lower level (01, the events secure and ret): bit 0 MBEC, bit 1 TLB lock.
+// The secure configuration that a level holds for each lower level (01, "Events": secure, flush, ret): whether MBEC is on for it,
+// and whether its TLB is locked. 001's HV_REGISTER_VSM_VP_SECURE_VTL_CONFIG is the word.
 ghost use mathlib.Core.Path.{_≡_};
 ghost use Prim.Native.Nat.{_<_};
-ghost use Rattle.word.specs.Field.{put, bit};
+ghost use Rattle.word.specs.Field.{bit};
 ghost use Rattle.model.specs.Bounded.{bits, any};
 ghost use Rattle.model.specs.State.{secureOf, mbecBit, lockBit};
 ghost use Rattle.model.specs.Updates.{setSecure, unlocked};
 ghost use Rattle.processor.specs.Record.{vpOf, lockCleared};
 use crate::record::Record;
+use crate::record::SECURE;
 use crate::record::level_word;
+use crate::record::set_level_bit;
 use crate::record::set_level_word;
 use model::machine::Shape;
+use model::quantity::Level;
+use model::quantity::NO_LEVEL;
+use model::set::LevelSet;
 use model::set::level_set;
-use word::field::has_bit;
+use word::registers::SecureConfig;
 
-// The secure configuration that level t holds for the lower level l.
-pub fn secure_of(z: Shape, p: &Record, t: u64, l: u64) -> u64
-    ensures { λ r. ⌜ r ≡ secureOf z (vpOf (now (p .entry))) t l ⌝ }
+// The TLB lock in a configuration word. Only this bit is cleared: a word that is packed anew would lose its reserved bits.
+const LOCK_BIT: u64 = 1;
+
+// The secure configuration that a level holds for a lower one.
+pub fn secure_of(shape: Shape, vp: &Record, holder: Level, lower: Level) -> u64
+    ensures { λ r. ⌜ r ≡ secureOf shape (vpOf (now (vp .entry))) (holder .0) (lower .0) ⌝ }
 {
-    if l >= t {
+    if lower.0 >= holder.0 {
         return 0;
     }
-    if l >= 4 {
+    if lower.0 >= NO_LEVEL {
         return 0;
     }
-    level_word(z, p, t, 18 + l)
+    level_word(shape, vp, holder, SECURE + lower.0)
 }
 
-// The set of the levels that have MBEC on for level l. Level 0 has no lower level.
-pub fn mbec_set(z: Shape, p: &Record, l: u64) -> u64
-    ensures { λ r. ⌜ r ≡ bits 4 (λ t. bit (secureOf z (vpOf (now (p .entry))) t l) mbecBit) ⌝ }
+// Has the holder MBEC on for the lower level?
+fn has_mbec(shape: Shape, vp: &Record, holder: Level, lower: Level) -> bool
+    ensures { λ r. ⌜ r ≡ bit (secureOf shape (vpOf (now (vp .entry))) (holder .0) (lower .0)) mbecBit ⌝ }
 {
-    let one = has_bit(secure_of(z, p, 1, l), 0);
-    let two = has_bit(secure_of(z, p, 2, l), 0);
-    let three = has_bit(secure_of(z, p, 3, l), 0);
-    level_set(false, one, two, three)
+    SecureConfig::unpack(secure_of(shape, vp, holder, lower)).mbec_enabled == 1
 }
 
-// Does a level hold a TLB lock on level l?
-pub fn holds_lock(z: Shape, p: &Record, l: u64) -> bool
-    ensures { λ r. ⌜ r ≡ any 4 (λ t. bit (secureOf z (vpOf (now (p .entry))) t l) lockBit) ⌝ }
+// Has the holder a TLB lock on the lower level?
+fn has_lock(shape: Shape, vp: &Record, holder: Level, lower: Level) -> bool
+    ensures { λ r. ⌜ r ≡ bit (secureOf shape (vpOf (now (vp .entry))) (holder .0) (lower .0)) lockBit ⌝ }
 {
-    let one = has_bit(secure_of(z, p, 1, l), 1);
-    let two = has_bit(secure_of(z, p, 2, l), 1);
-    let three = has_bit(secure_of(z, p, 3, l), 1);
+    SecureConfig::unpack(secure_of(shape, vp, holder, lower)).tlb_locked == 1
+}
+
+// The set of the levels that have MBEC on for a level. Level 0 has no lower level.
+pub fn mbec_set(shape: Shape, vp: &Record, level: Level) -> LevelSet
+    ensures { λ r. ⌜ r .0 ≡ bits 4 (λ t. bit (secureOf shape (vpOf (now (vp .entry))) t (level .0)) mbecBit) ⌝ }
+{
+    level_set(
+        false,
+        has_mbec(shape, vp, Level(1), level),
+        has_mbec(shape, vp, Level(2), level),
+        has_mbec(shape, vp, Level(3), level),
+    )
+}
+
+// Does a level hold a TLB lock on the level?
+pub fn holds_lock(shape: Shape, vp: &Record, level: Level) -> bool
+    ensures { λ r. ⌜ r ≡ any 4 (λ t. bit (secureOf shape (vpOf (now (vp .entry))) t (level .0)) lockBit) ⌝ }
+{
+    let one = has_lock(shape, vp, Level(1), level);
+    let two = has_lock(shape, vp, Level(2), level);
+    let three = has_lock(shape, vp, Level(3), level);
     one | two | three
 }
 
-// secure: sets level t's configuration of level l to w.
-pub fn set_secure(z: Shape, p: &mut Record, t: u64, l: u64, w: u64)
-    ensures { λ _. ⌜ vpOf (now (p .exit)) ≡ setSecure z (vpOf (now (p .entry))) t l w ⌝ }
+// secure: sets the holder's configuration of the lower level.
+pub fn set_secure(shape: Shape, vp: &mut Record, holder: Level, lower: Level, value: u64)
+    ensures { λ _. ⌜ vpOf (now (vp .exit)) ≡ setSecure shape (vpOf (now (vp .entry))) (holder .0) (lower .0) value ⌝ }
 {
-    if l >= 4 {
+    if lower.0 >= NO_LEVEL {
         return;
     }
-    set_level_word(z, p, t, 18 + l, w);
+    set_level_word(shape, vp, holder, SECURE + lower.0, value);
 }
 
-// A configuration word with its lock cleared.
-fn without_lock(word: u64) -> u64
-    ensures { λ r. ⌜ r ≡ put lockBit 1 word 0 ⌝ }
+// Clears the holder's lock in its configuration of the lower level.
+fn clear_lock(shape: Shape, vp: &mut Record, holder: Level, lower: Level)
+    requires { ⌜ lower .0 < 4 ⌝ }
+    ensures { λ _. ⌜ vpOf (now (vp .exit)) ≡ lockCleared shape (vpOf (now (vp .entry))) (holder .0) (lower .0) ⌝ }
 {
-    word::field::put(word, 1, 1, 0)
+    set_level_bit(shape, vp, holder, SECURE + lower.0, LOCK_BIT, 0);
 }
 
-// Clears level t's lock in the configuration of level l.
-fn clear_lock(z: Shape, p: &mut Record, t: u64, l: u64)
-    requires { ⌜ l < 4 ⌝ }
-    ensures { λ _. ⌜ vpOf (now (p .exit)) ≡ lockCleared z (vpOf (now (p .entry))) t l ⌝ }
+// ret: clears the TLB locks of a level.
+pub fn unlock(shape: Shape, vp: &mut Record, level: Level)
+    ensures { λ _. ⌜ vpOf (now (vp .exit)) ≡ unlocked shape (vpOf (now (vp .entry))) (level .0) ⌝ }
 {
-    let word = level_word(z, p, t, 18 + l);
-    set_level_word(z, p, t, 18 + l, without_lock(word));
-}
-
-// ret: clears the TLB locks of level t.
-pub fn unlock(z: Shape, p: &mut Record, t: u64)
-    ensures { λ _. ⌜ vpOf (now (p .exit)) ≡ unlocked z (vpOf (now (p .entry))) t ⌝ }
-{
-    clear_lock(z, p, t, 0);
-    clear_lock(z, p, t, 1);
-    clear_lock(z, p, t, 2);
-    clear_lock(z, p, t, 3);
+    clear_lock(shape, vp, level, Level(0));
+    clear_lock(shape, vp, level, Level(1));
+    clear_lock(shape, vp, level, Level(2));
+    clear_lock(shape, vp, level, Level(3));
 }

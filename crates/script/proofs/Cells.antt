@@ -8,9 +8,9 @@ use lib.ListN.{length, length-append}
 use lib.Seq.{length-sets, sets}
 use Rattle.decimal.proofs.Digits.{text-length}
 use Rattle.decimal.specs.Write.{decimal}
-use Rattle.script.specs.Lines.{tab}
-use Rattle.script.specs.Listing.{cell, lineFeed, listingLine}
-use Rattle.script.proofs.Stores.{sets-append}
+use Rattle.script.specs.LineForms.{tab}
+use Rattle.script.specs.ListingLine.{cell, lineFeed, listingLine}
+use Rattle.script.proofs.StoredTexts.{sets-append}
 
 -- A cell has one byte more than its number has digits.
 pub cell-length : (n closing : ℕ) → length (cell n closing) ≡ length (decimal n) + 1

@@ -11,16 +11,16 @@ use lib.Dec.{eqb}
 use lib.ListN.{length, length-append, take}
 use Rattle.decimal.proofs.Digits.{text-digits, text-length}
 use Rattle.decimal.proofs.OneText.{one-text}
-use Rattle.decimal.proofs.RoundTrip.{round-trip}
+use Rattle.decimal.proofs.DecimalRoundTrip.{round-trip}
 use Rattle.decimal.specs.Read.{readDecimal}
 use Rattle.decimal.specs.Write.{OnlyDigits, decimal}
 use Rattle.decimal.specs.declared.Number.{Number}
 use Rattle.decimal.specs.declared.Number.the-variants.{Value, Malformed}
-use Rattle.script.specs.Lines.{fields, followedBy, inFront, numbersIn, tab}
-use Rattle.script.specs.Rows.{fieldsAfter, untilTab}
+use Rattle.script.specs.LineForms.{fields, followedBy, inFront, numbersIn, tab}
+use Rattle.script.specs.NumberRows.{fieldsAfter, untilTab}
 use Rattle.script.specs.Texts.{Numbers, parted}
 use Rattle.script.proofs.Naming.{noTab}
-use Rattle.script.proofs.Places.{fields-first}
+use Rattle.script.proofs.FieldPlaces.{fields-first}
 use Rattle.script.proofs.Same.{differ}
 
 -- Digits have no tab.

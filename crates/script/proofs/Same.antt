@@ -4,25 +4,17 @@ use Prim.Native.Nat.{ℕ}
 use mathlib.Core.Bool.{Bool, true, false, _&&_}
 use mathlib.Core.List.{List, [], _∷_}
 use mathlib.Core.Path.{_≡_, refl}
-use borrow.Author.Tests.{eq-eqb, eqb-true}
+use borrow.Author.Tests.{eqb-true}
 use native.Mathlib.Omega.{arith}
 use lib.Dec.{eqb}
+use Rattle.decimal.proofs.DigitReading.{both}
 use Rattle.script.specs.Bytes.{same}
 
--- A test has one outcome; where two tests both hold, each does.
+-- A test has one outcome.
 pub differ : {A : Type 0} → false ≡ true → A
 differ h = absurd (let z : _≡_ {A = ℕ} 0 1 = cc in omega arith)
 
-pub both : (s t : Bool) → (s && t) ≡ true → (s ≡ true) × (t ≡ true)
-both true t h = (refl, h)
-both false t h = differ h
-
--- A word is the same as itself, and as no other.
-pub same-self : (word : List ℕ) → same word word ≡ true
-unfolding same
-same-self [] = refl
-same-self (a ∷ word) = rw (eq-eqb a a refl, same-self word)
-
+-- Words that are the same are equal.
 pub same-true : (left right : List ℕ) → same left right ≡ true → left ≡ right
 unfolding same
 same-true [] [] h = refl

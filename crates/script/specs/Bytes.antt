@@ -19,8 +19,9 @@ same no-bytes (b then right) = false
 same (a then left) no-bytes = false
 same (a then left) (b then right) = eqb a b && same left right
 
--- Whether a line's first field has the bytes of a word, and a tab closes it. The byte 9 is a tab.
+-- Whether a line's first field has the bytes of a word: a tab or the end of the line closes it. The byte 9 is a tab.
 unfoldable pub begun : List ℕ → List ℕ → Bool
-begun no-bytes word = false
+begun no-bytes no-bytes = true
+begun no-bytes (a then word) = false
 begun (b then line) no-bytes = eqb b 9
 begun (b then line) (a then word) = eqb b a && begun line word

@@ -3,7 +3,7 @@ use mathlib.Core.Bool.{cond}
 use mathlib.Core.List.{List, [], _∷_, _++_}
 use Prim.Native.Nat.{ℕ}
 use lib.Dec.{eqb}
-use Rattle.script.specs.Listing.{lineFeed}
+use Rattle.script.specs.ListingLine.{lineFeed}
 
 -- The lines that a line feed ends, and the bytes after the last line feed.
 pub record Lines : Type 0 where

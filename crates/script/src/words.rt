@@ -3,11 +3,11 @@ ghost use mathlib.Core.Bool.{cond};
 ghost use mathlib.Core.Path.{_≡_};
 ghost use lib.ListN.{length};
 ghost use Rattle.script.specs.Bytes.{begun};
-ghost use Rattle.script.specs.Words.{namedAmong, words};
+ghost use Rattle.script.specs.EventWords.{namedAmong, words};
 ghost use Rattle.script.specs.declared.words.Named.the-variants.{As};
 
-// The nineteen event words.
-pub enum Word {
+// The words of the events that a level makes.
+pub enum ActionWord {
     Enpart,
     Envp,
     Call,
@@ -23,10 +23,15 @@ pub enum Word {
     Wreg,
     Tpr,
     Ack,
-    Int,
     Pstat,
     Vstat,
     Caps,
+}
+
+// The nineteen event words: `int` comes from outside.
+pub enum Word {
+    Made(ActionWord),
+    Interrupt,
 }
 
 // The event word that a line begins with, where it ends, and how many numbers its event takes.
@@ -39,12 +44,12 @@ pub enum Named {
     Nothing,
 }
 
-// Whether a line's first field is the word with this name, and another field follows.
+// Whether a line's first field is the word with this name.
 pub fn begins(line: &[u8], name: &[u8]) -> bool
     ensures { λ r. ⌜ r ≡ begun (now (line .entry)) (now (name .entry)) ⌝ }
 {
     let end = name.len();
-    if line.len() <= end {
+    if line.len() < end {
         return false;
     }
     let mut i: usize = 0;
@@ -53,6 +58,9 @@ pub fn begins(line: &[u8], name: &[u8]) -> bool
             return false;
         }
         i += 1;
+    }
+    if line.len() == end {
+        return true;
     }
     line[end] == b'\t'
 }
@@ -79,36 +87,84 @@ pub fn word_of(line: &[u8]) -> Named
         return Named::Nothing;
     }
     match line[0] {
-        b'a' => pick(line, b"ack", Word::Ack, 2, Named::Nothing),
+        b'a' => pick(line, b"ack", Word::Made(ActionWord::Ack), 2, Named::Nothing),
         b'c' => {
-            let caps = pick(line, b"caps", Word::Caps, 2, Named::Nothing);
-            let config = pick(line, b"config", Word::Config, 4, caps);
-            pick(line, b"call", Word::Call, 3, config)
+            let caps = pick(
+                line,
+                b"caps",
+                Word::Made(ActionWord::Caps),
+                2,
+                Named::Nothing,
+            );
+            let config = pick(line, b"config", Word::Made(ActionWord::Config), 4, caps);
+            pick(line, b"call", Word::Made(ActionWord::Call), 3, config)
         }
         b'e' => {
-            let envp = pick(line, b"envp", Word::Envp, 7, Named::Nothing);
-            pick(line, b"enpart", Word::Enpart, 4, envp)
+            let envp = pick(
+                line,
+                b"envp",
+                Word::Made(ActionWord::Envp),
+                7,
+                Named::Nothing,
+            );
+            pick(line, b"enpart", Word::Made(ActionWord::Enpart), 4, envp)
         }
         b'f' => {
-            let flush = pick(line, b"flush", Word::Flush, 2, Named::Nothing);
-            pick(line, b"fetch", Word::Fetch, 3, flush)
+            let flush = pick(
+                line,
+                b"flush",
+                Word::Made(ActionWord::Flush),
+                2,
+                Named::Nothing,
+            );
+            pick(line, b"fetch", Word::Made(ActionWord::Fetch), 3, flush)
         }
-        b'i' => pick(line, b"int", Word::Int, 3, Named::Nothing),
+        b'i' => pick(line, b"int", Word::Interrupt, 3, Named::Nothing),
         b'p' => {
-            let pstat = pick(line, b"pstat", Word::Pstat, 2, Named::Nothing);
-            pick(line, b"protect", Word::Protect, 4, pstat)
+            let pstat = pick(
+                line,
+                b"pstat",
+                Word::Made(ActionWord::Pstat),
+                2,
+                Named::Nothing,
+            );
+            pick(line, b"protect", Word::Made(ActionWord::Protect), 4, pstat)
         }
         b'r' => {
-            let rreg = pick(line, b"rreg", Word::Rreg, 4, Named::Nothing);
-            let read = pick(line, b"read", Word::Read, 3, rreg);
-            pick(line, b"ret", Word::Ret, 3, read)
+            let rreg = pick(
+                line,
+                b"rreg",
+                Word::Made(ActionWord::Rreg),
+                4,
+                Named::Nothing,
+            );
+            let read = pick(line, b"read", Word::Made(ActionWord::Read), 3, rreg);
+            pick(line, b"ret", Word::Made(ActionWord::Ret), 3, read)
         }
-        b's' => pick(line, b"secure", Word::Secure, 4, Named::Nothing),
-        b't' => pick(line, b"tpr", Word::Tpr, 3, Named::Nothing),
-        b'v' => pick(line, b"vstat", Word::Vstat, 2, Named::Nothing),
+        b's' => pick(
+            line,
+            b"secure",
+            Word::Made(ActionWord::Secure),
+            4,
+            Named::Nothing,
+        ),
+        b't' => pick(line, b"tpr", Word::Made(ActionWord::Tpr), 3, Named::Nothing),
+        b'v' => pick(
+            line,
+            b"vstat",
+            Word::Made(ActionWord::Vstat),
+            2,
+            Named::Nothing,
+        ),
         b'w' => {
-            let wreg = pick(line, b"wreg", Word::Wreg, 5, Named::Nothing);
-            pick(line, b"write", Word::Write, 4, wreg)
+            let wreg = pick(
+                line,
+                b"wreg",
+                Word::Made(ActionWord::Wreg),
+                5,
+                Named::Nothing,
+            );
+            pick(line, b"write", Word::Made(ActionWord::Write), 4, wreg)
         }
         _ => Named::Nothing,
     }

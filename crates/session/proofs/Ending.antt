@@ -9,38 +9,36 @@ use native.Mathlib.Omega.{arith}
 use lib.Dec.{eqb, ltb}
 use lib.ListN.{drop, getD, length, length-replicate, length-take, replicate, replicate-append-replicate, take}
 use lib.Seq.{length-take-le, sets, take-all, take-at}
-use Rattle.decimal.proofs.Room.{after-room, with-room}
-use Rattle.decimal.specs.Write.{afterText, withText}
-use Rattle.model.proofs.Bools.{and-right, hold}
+use Rattle.model.proofs.Bools.{and-right}
+use Rattle.model.proofs.Fresh.{few-pages}
 use Rattle.model.proofs.Keeps.{step-keeps}
-use Rattle.model.specs.Answers.{numberOf, valueOf}
+use Rattle.model.specs.Answers.{numberOf, refusalNumber, valueOf}
 use Rattle.model.specs.Fresh.{admissible, fresh}
-use Rattle.model.specs.State.{State, active, activeOf, isProcessor, level, noVp, pastVp, processors, vp}
+use Rattle.model.specs.State.{isIndex, State, active, activeOf, isProcessor, level, noVp, pastVp, processors, vp}
 use Rattle.model.specs.Step.{Outcome, nextFor, step}
 use Rattle.model.specs.WellFormed.{wellFormed}
 use Rattle.model.specs.declared.answer.Answer.{Answer}
 use Rattle.model.specs.declared.answer.Answer.the-variants.{Refused}
-use Rattle.model.specs.declared.answer.Refusal.the-variants.{Malformed}
+use Rattle.model.specs.declared.answer.Refusal.{Refusal}
+use Rattle.model.specs.declared.answer.Refusal.the-variants.{LineTooLong}
 use Rattle.model.specs.declared.event.Event.{Event}
 use Rattle.model.specs.declared.machine.FirstLine.{FirstLine}
 use Rattle.model.specs.declared.quantity.Level.{Level}
 use Rattle.model.specs.declared.quantity.Processor.{Processor}
-use Rattle.script.proofs.Cells.{line-at-most}
-use Rattle.script.specs.Events.{events, lineEvent}
+use Rattle.script.specs.EventForms.{events, lineEvent}
 use Rattle.script.specs.First.{lineFirst, vsm}
-use Rattle.script.specs.Lines.{Form, fields, said, saidIn}
-use Rattle.script.specs.Listing.{listingLine}
+use Rattle.script.specs.LineForms.{Form, fields, said, saidIn}
 use Rattle.script.specs.declared.Parsed.{Parsed}
 use Rattle.script.specs.declared.Parsed.the-variants as parsed
 use Rattle.script.specs.declared.Start.{Start}
 use Rattle.script.specs.declared.Start.the-variants as start
-use Rattle.step.proofs.Whole.{step-as-if}
+use Rattle.step.proofs.KnownFormed.{step-as-if}
 use Rattle.step.specs.Stepped.{stepIf}
 use Rattle.session.specs.declared.Phase.{Phase}
 use Rattle.session.specs.declared.Phase.the-variants as phase
-use Rattle.listing.specs.Answer.{answerText, isKnown, levelOn}
+use Rattle.listing.specs.Answer.{levelOn, levelShown, shownBy, shownOf}
 use Rattle.listing.specs.Listing.{answered, levelColumn, numberAfter, processorOf, recordOf, stateBy}
-use Rattle.session.specs.Parts.{blankIn, hasStopped, isLater}
+use Rattle.session.specs.SessionParts.{blankIn, hasStopped, isLater}
 use Rattle.session.specs.Session.{Progress, begun, continued, ended, extended, first, isStopped, kept, lastText, later, lentOf, progressIn, roomFor, stopped}
 use Rattle.chunk.specs.Chunk.{held}
 
@@ -56,22 +54,11 @@ keep-in phase.First number s line more line′ e = rw e
 keep-in phase.Later number s line more line′ e = rw e
 keep-in phase.Stopped number s line more line′ e = refl
 
--- A record at the start of a buffer that has room for the longest.
-module _ (out : List ℕ) (number answer value level : ℕ) (room : 84 ≤ length out) where
-  fits : 0 + length (listingLine number answer value level) ≤ length out
-  fits = omega (arith, line-at-most number answer value level)
-
-  pub after-first : afterText out 0 (listingLine number answer value level) ≡ length (listingLine number answer value level)
-  after-first = after-room out 0 (listingLine number answer value level) fits ∙ omega arith
-
-  pub with-first : withText out 0 (listingLine number answer value level) ≡ sets out 0 (listingLine number answer value level)
-  with-first = with-room out 0 (listingLine number answer value level) fits
-
 -- All words of a fresh machine are 0.
 pub fresh-words : (f : FirstLine) → admissible f ≡ true → lentOf (replicate 64 0) (f .pages) ≡ fresh f .words
-unfolding admissible fresh
+unfolding fresh
 fresh-words f h =
-    let pages : f .pages ≤ 64 = leb-true (f .pages) 64 (hold _ h .1 .1 .1 .1 .0) in
+    let pages : f .pages ≤ 64 = few-pages f h in
     let count : min (f .pages) 64 ≡ f .pages = omega arith in
     let rest : f .pages + (64 - f .pages) ≡ 64 = omega arith in
     let zeros : replicate {A = ℕ} 64 0 ≡ replicate (f .pages) 0 ++ replicate (64 - f .pages) 0 =
@@ -85,13 +72,14 @@ pub words-back : (words lent : List ℕ) (k : ℕ) → k ≤ length words → le
 words-back words lent k h e = take-at lent (drop k words) k (e ∙ length-take-le k words h)
 
 -- The level that is active on a processor, as the code reads it.
-pub active-read : (s : State) (v : ℕ) → active s v ≡ cond (isKnown v (s .machine .processors)) (getD (s .machine .vps) (v % 4) pastVp .active .0) 0
+active-read : (s : State) (v : Processor)
+    → levelOn v (s .machine .processors) (getD (s .machine .vps) (v .0 % 4) pastVp .active) ≡ level (active s (v .0))
 unfolding active activeOf vp isProcessor processors
-active-read s v = go (isKnown v (s .machine .processors)) refl
+active-read s v = go (isIndex (s .machine .processors) (v .0)) refl
   where
-    go : (t : Bool) → isKnown v (s .machine .processors) ≡ t
-        → cond t (getD (s .machine .vps) v pastVp) noVp .active .0 ≡ cond t (getD (s .machine .vps) (v % 4) pastVp .active .0) 0
-    go true e = let h : v % 4 ≡ v = omega (arith, ltb-true v 4 (and-right (ltb v (s .machine .processors)) (ltb v 4) e)) in rw h
+    go : (t : Bool) → isIndex (s .machine .processors) (v .0) ≡ t
+        → cond t (getD (s .machine .vps) (v .0 % 4) pastVp .active) (level 0) ≡ level (cond t (getD (s .machine .vps) (v .0) pastVp) noVp .active .0)
+    go true e = let h : v .0 % 4 ≡ v .0 = omega (arith, ltb-true (v .0) 4 (and-right (ltb (v .0) (s .machine .processors)) (ltb (v .0) 4) e)) in rw h
     go false e = refl
 
 -- A state that is not well formed stays as it is.
@@ -99,16 +87,18 @@ refused-next : (s : State) (e : Event) → wellFormed s ≡ false → step s e .
 unfolding step nextFor
 refused-next s e w = rw w
 
--- The record of an answer, as the code has it.
-pub answer-record : (o : Outcome) (v : Processor) (number : ℕ)
-    → answerText number (o .answer) (levelOn (v .0) (o .next .machine .processors) (getD (o .next .machine .vps) (v .0 % 4) pastVp .active .0))
-    ≡ listingLine number (numberOf (o .answer)) (valueOf (o .answer)) (levelColumn o v)
-answer-record o v number = rw (active-read (o .next) (v .0))
+-- What is shown of an answer, as the code has it.
+level-column : (number active : ℕ) → levelShown number (level active) ≡ level (cond (eqb number 1) 0 active)
+level-column number active = go (eqb number 1)
+  where
+    go : (t : Bool) → cond t (level 0) (level active) ≡ level (cond t 0 active)
+    go true = refl
+    go false = refl
 
 -- The end of a first line that is malformed, and of one that is not admissible or is.
-pub first-malformed : (line : List ℕ) → lineFirst line ≡ start.Malformed → ended (first line) ≡ begun none
+pub first-malformed : (line : List ℕ) (refusal : Refusal) → lineFirst line ≡ start.Malformed refusal → ended (first line) ≡ begun none
 unfolding ended
-first-malformed line e = rw e
+first-malformed line refusal e = rw e
 
 pub first-refused : (line : List ℕ) (f : FirstLine) → lineFirst line ≡ start.First f → admissible f ≡ false → ended (first line) ≡ begun none
 unfolding ended
@@ -125,19 +115,24 @@ unfolding ended
 ended-by number s next line text n t = (rw n, t)
 
 -- A line that is malformed: nothing changes.
-pub told-malformed : (number : ℕ) (s : State) (line : List ℕ) → lineEvent line ≡ parsed.Malformed
-    → (s ≡ answered s (lineEvent line) .next) × (answerText number (Refused Malformed) (level 0) ≡ recordOf number (answered s (lineEvent line)))
-told-malformed number s line e = rw e (refl, refl)
+pub told-malformed : (s : State) (line : List ℕ) (refusal : Refusal) → lineEvent line ≡ parsed.Malformed refusal
+    → (s ≡ answered s (lineEvent line) .next) × (shownOf (Refused refusal) (level 0) ≡ shownBy (answered s (lineEvent line)))
+told-malformed s line refusal e =
+    rw e (refl, ap (λ (l : Level). record { answer = refusalNumber refusal; value = 0; level = l }) (level-column (refusalNumber refusal) 0 ∙ go (eqb (refusalNumber refusal) 1)))
+  where
+    go : (t : Bool) → level (cond t 0 0) ≡ level 0
+    go true = refl
+    go false = refl
 
--- A line that says an event: the state, the record, and whether the state is well formed.
-module _ (number : ℕ) (s next : State) (line : List ℕ) (e : Event) (said : lineEvent line ≡ parsed.Event e) (formed : Bool) (well : formed ≡ wellFormed s)
-    (a : Answer) (done : record { answer = a; next = next } ≡ stepIf formed s e)
+-- An event on a machine: the state, what is shown, and whether the state is well formed.
+module _ (s next : State) (e : Event) (formed : Bool) (well : formed ≡ wellFormed s) (a : Answer)
+    (done : record { answer = a; next = next } ≡ stepIf formed s e)
   where
     stepped : record { answer = a; next = next } ≡ step s e
     stepped = done ∙ step-as-if formed s e well
 
-    pub told-next : next ≡ answered s (lineEvent line) .next
-    told-next = rw said (ap (λ (o : Outcome). o .next) stepped)
+    pub told-next : next ≡ answered s (parsed.Event e) .next
+    told-next = ap (λ (o : Outcome). o .next) stepped
 
     pub told-formed : formed ≡ wellFormed next
     told-formed = well ∙ go (wellFormed s) refl ∙ sym (ap (λ (o : Outcome). wellFormed (o .next)) stepped)
@@ -146,13 +141,14 @@ module _ (number : ℕ) (s next : State) (line : List ℕ) (e : Event) (said : l
         go true w = w ∙ sym (step-keeps s e w)
         go false w = sym (ap wellFormed (refused-next s e w))
 
-    pub told-text : (v : Processor) → v ≡ processorOf e
-        → (on : Level) → on ≡ levelOn (v .0) (next .machine .processors) (getD (next .machine .vps) (v .0 % 4) pastVp .active .0)
-        → answerText number a on ≡ recordOf number (answered s (lineEvent line))
-    told-text v here on there =
-        let written : answerText number a on ≡ listingLine number (numberOf a) (valueOf a) (levelColumn (record { answer = a; next = next }) (processorOf e)) =
-        rw (there, ← here) (answer-record (record { answer = a; next = next }) v number) in
-        rw said (written ∙ ap (λ (o : Outcome). listingLine number (numberOf (o .answer)) (valueOf (o .answer)) (levelColumn o (processorOf e))) stepped)
+    pub told-shown : (v : Processor) → v ≡ processorOf e
+        → (on : Level) → on ≡ levelOn v (next .machine .processors) (getD (next .machine .vps) (v .0 % 4) pastVp .active)
+        → shownOf a on ≡ shownBy (answered s (parsed.Event e))
+    told-shown v here on there =
+        let column : levelShown (numberOf a) on ≡ level (levelColumn (record { answer = a; next = next }) (processorOf e)) =
+        rw (there, active-read next v, ← here) (level-column (numberOf a) (active next (v .0))) in
+        ap (λ (l : Level). record { answer = numberOf a; value = valueOf a; level = l }) column
+        ∙ ap (λ (o : Outcome). record { answer = numberOf (o .answer); value = valueOf (o .answer); level = level (levelColumn o (processorOf e)) }) stepped
 
 -- At the end of a script: a later line that has no bytes, and any other line.
 pub last-none : (p : Phase) (number : ℕ) (s : State) (line : List ℕ) → (isLater p && eqb (length line) 0) ≡ true
@@ -215,13 +211,13 @@ ended-later q phase.Later number s line e h = ap (later number s) (ap bytesOf h 
 ended-later q phase.Stopped number s line e h = absurd (false≢true (sym e))
 
 -- The bytes that are kept of a line say what the line says.
-module _ {A R : Type 0} (good : A → R) (bad : R) (forms : List (Form A)) (line : List ℕ) where
+module _ {A R : Type 0} (good : A → R) (bad : Refusal → R) (forms : List (Form A)) (line : List ℕ) where
   pub said-kept : said good bad forms (take 257 line) ≡ said good bad forms line
   unfolding said
   said-kept = go (ltb 256 (length line)) refl
     where
       go : (t : Bool) → ltb 256 (length line) ≡ t
-          → cond (ltb 256 (length (take 257 line))) bad (saidIn good bad forms (fields (take 257 line))) ≡ cond t bad (saidIn good bad forms (fields line))
+          → cond (ltb 256 (length (take 257 line))) (bad LineTooLong) (saidIn good bad forms (fields (take 257 line))) ≡ cond t (bad LineTooLong) (saidIn good bad forms (fields line))
       go true e = rw (lt-ltb 256 (length (take 257 line)) (omega (arith, length-take 257 line, ltb-true 256 (length line) e)))
       go false e = rw (take-all 257 line (omega (arith, ltb-false 256 (length line) e)), e)
 

@@ -13,16 +13,16 @@ use lib.ListN.{drop, length, length-append, length-drop, take}
 use lib.Seq.{length-sets, length-take-le, sets}
 use Rattle.model.specs.State.{State}
 use Rattle.script.proofs.Cells.{line-at-most}
-use Rattle.script.proofs.Stores.{sets-append}
+use Rattle.script.proofs.StoredTexts.{sets-append}
 use Rattle.script.specs.First.{lineFirst}
-use Rattle.script.specs.Listing.{lineFeed}
+use Rattle.script.specs.ListingLine.{lineFeed}
 use Rattle.session.specs.declared.Fed.{Fed}
 use Rattle.chunk.specs.Chunk.{lineEnd}
 use Rattle.listing.specs.Listing.{stateBy}
 use Rattle.script.specs.Records.{linesIn}
-use Rattle.session.specs.Parts.{FedFrom}
+use Rattle.session.specs.SessionParts.{FedFrom}
 use Rattle.session.specs.Session.{Bounds, Ended, Feeding, Progress, begun, ended, extended, fed, fedLines, first, followed, kept, later, progressOf, roomFor, stopped}
-use Rattle.chunk.proofs.Lines.{end-within, joined, lines-from, lines-last, lines-joined}
+use Rattle.chunk.proofs.ChunkLines.{end-within, joined, lines-from, lines-last, lines-joined}
 
 -- A record has at most 84 bytes.
 begun-at-most : (o : Option State) → length (begun o .text) ≤ 84

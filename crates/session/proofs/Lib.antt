@@ -1,4 +1,5 @@
 -- The laws of a session. `whole` of Whole is the theorem. Assumes nothing.
+pub mod Numbering  -- a line number with its digits
 pub mod Ending  -- the end of a line
 pub mod Feeding  -- a chunk from a place on
-pub mod Whole  -- any cutting gives the listing of the whole
+pub mod WholeListing  -- any cutting gives the listing of the whole

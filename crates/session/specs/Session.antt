@@ -8,14 +8,15 @@ use Prim.Native.Nat.{ℕ, suc, min, _+_, _-_, _≤_}
 use lib.Dec.{eqb, ltb}
 use lib.ListN.{length, take}
 use Rattle.model.specs.State.{State}
-use Rattle.chunk.specs.Chunk.{held}
-use Rattle.script.specs.Events.{lineEvent}
+use Rattle.chunk.specs.Chunk.{held, keptBytes}
+use Rattle.script.specs.EventForms.{lineEvent}
 use Rattle.script.specs.First.{lineFirst}
-use Rattle.state.specs.Parts.{machineOf, stateOf}
+use Rattle.state.specs.Lent.{lent}
 use Rattle.session.specs.declared.Phase.{Phase}
 use Rattle.session.specs.declared.Phase.the-variants as phase
 use Rattle.session.specs.declared.Session.{Session}
 use Rattle.listing.specs.Listing.{Answered, answered, firstDone, firstRefused, numberAfter, recordOf, stateBy}
+use Rattle.script.specs.ListingLine.{longestRecord}
 use Rattle.script.specs.Records.{linesIn}
 
 -- How far a session has come, with the bytes that it has of a line that has not ended.
@@ -39,7 +40,7 @@ lentOf words lent = take (min lent 64) words
 
 -- The state of a session.
 abbrev pub stateIn : Session → State
-stateIn s = stateOf (machineOf (s .setup) (s .levels) (s .masks) (s .first ∷ s .second ∷ s .third ∷ s .fourth ∷ [])) (lentOf (s .words) (s .lent))
+stateIn s = lent (s .setup) (s .levels) (s .masks) (s .first ∷ s .second ∷ s .third ∷ s .fourth ∷ []) (lentOf (s .words) (s .lent))
 
 -- What a session stands for. The buffer beyond the bytes of the line, and the words beyond those of the pages, are no part of it.
 abbrev pub progressOf : Session → Progress
@@ -57,10 +58,10 @@ extended (first line) more = first (line ++ more)
 extended (later number s line) more = later number s (line ++ more)
 extended stopped more = stopped
 
--- Of a line that goes on in the next chunk at most 257 bytes are kept. So many are too many, whatever follows.
+-- Of a line that goes on in the next chunk so many bytes are kept at most: they are too many, whatever follows.
 abbrev pub kept : Progress → Progress
-kept (first line) = first (take 257 line)
-kept (later number s line) = later number s (take 257 line)
+kept (first line) = first (take keptBytes line)
+kept (later number s line) = later number s (take keptBytes line)
 kept stopped = stopped
 
 -- What the end of a line leaves, and its record.
@@ -84,8 +85,8 @@ ended stopped = record { progress = stopped; text = [] }
 
 -- The longest record has so many bytes; a session that has stopped writes none.
 abbrev pub roomFor : Progress → ℕ
-roomFor (first line) = 84
-roomFor (later number s line) = 84
+roomFor (first line) = longestRecord
+roomFor (later number s line) = longestRecord
 roomFor stopped = 0
 
 -- What a session leaves of a chunk, how many bytes of it are used, and what is written.

@@ -5,12 +5,18 @@ ghost use mathlib.Core.Path.{_≡_};
 ghost use lib.ListN.{length};
 ghost use lib.Seq.{sets};
 ghost use Rattle.session.specs.Session.{Bounds, fed, first, isStopped, lastText, progressOf};
+use chunk::KEPT_BYTES;
+use model::machine::Setup;
 use partition::level::Levels;
+use partition::mask::Masks;
 use processor::record::Record;
-use state::parts::Setup;
 
-mod answer; // a line answered, and its record
+mod line_answer; // what a line is answered
 mod lines; // lines that end
+mod listing_record; // the record of a line
+
+// The longest record of the listing has so many bytes: four numbers of 20 digits, each with a byte that closes it.
+pub const LONGEST_RECORD: usize = 84;
 
 // How far a session has come.
 pub enum Phase {
@@ -19,18 +25,19 @@ pub enum Phase {
     Stopped,
 }
 
-// What is kept from chunk to chunk. A line has at most 256 bytes; one more is kept, so that a longer line is known to be too long.
+// What is kept from chunk to chunk. What the buffer holds beyond the line, and the words beyond those lent, are no part of it: no
+// contract speaks of them.
 pub struct Session {
     phase: Phase,
     // The number of the line that comes next.
     number: u64,
     // The beginning of a line that goes on in the next chunk: so many bytes of the buffer.
     length: usize,
-    line: [u8; 257],
+    line: [u8; KEPT_BYTES],
     // The machine in its parts: what stays the same, the words of the levels, the masks, and the records of four processors.
     setup: Setup,
     levels: Levels,
-    masks: [u64; 256],
+    masks: Masks,
     first: Record,
     second: Record,
     third: Record,
@@ -55,20 +62,22 @@ pub fn fresh() -> Session
 }
 
 // Whether a session has stopped after a refused first line: what follows is not read.
-pub fn stopped(s: Session) -> bool
-    ensures { λ r. ⌜ r ≡ isStopped (progressOf s) ⌝ }
+pub fn stopped(session: Session) -> bool
+    ensures { λ r. ⌜ r ≡ isStopped (progressOf session) ⌝ }
 {
-    let phase = s.phase;
+    let phase = session.phase;
     lines::has_stopped(phase)
 }
 
-// Uses as much of a chunk as `out` has room for the records of, and says how much that was: no line is ended while fewer than 84
-// bytes are left. A line that lies whole in the chunk is not copied.
+// Uses as much of a chunk as `out` has room for the records of, and says how much that was: no line is ended while the longest
+// record has no room. A line that lies whole in the chunk is not copied.
 pub fn feed(start: Session, chunk: &[u8], out: &mut [u8]) -> Fed
-    ensures session { λ r. ⌜ progressOf (r .session) ≡ fed (progressOf start) (now (chunk .entry)) (length (now (out .entry))) .progress ⌝ }
+    ensures session { λ r. ⌜ progressOf (r .session)
+        ≡ fed (progressOf start) (now (chunk .entry)) (length (now (out .entry))) .progress ⌝ }
     ensures used { λ r. ⌜ r .used ≡ fed (progressOf start) (now (chunk .entry)) (length (now (out .entry))) .used ⌝ }
     ensures wrote { λ r. ⌜ r .wrote ≡ length (fed (progressOf start) (now (chunk .entry)) (length (now (out .entry))) .text) ⌝ }
-    ensures out { λ _. ⌜ now (out .exit) ≡ sets (now (out .entry)) 0 (fed (progressOf start) (now (chunk .entry)) (length (now (out .entry))) .text) ⌝ }
+    ensures out { λ _. ⌜ now (out .exit)
+        ≡ sets (now (out .entry)) 0 (fed (progressOf start) (now (chunk .entry)) (length (now (out .entry))) .text) ⌝ }
     ensures bounds { λ r. ⌜ Bounds (r .used) (r .wrote) (now (chunk .entry)) (now (out .exit)) ⌝ }
 {
     let phase = start.phase;
@@ -90,7 +99,7 @@ pub fn feed(start: Session, chunk: &[u8], out: &mut [u8]) -> Fed
             wrote: 0,
         };
     }
-    if out.len() < lines::LONGEST {
+    if out.len() < LONGEST_RECORD {
         return Fed {
             session: start,
             used: 0,
@@ -98,32 +107,32 @@ pub fn feed(start: Session, chunk: &[u8], out: &mut [u8]) -> Fed
         };
     }
     let line = lines::keep(start, &chunk[..end]);
-    let e = lines::end_line(line, out);
-    let next = e.session;
+    let ended = lines::end_line(line, out);
+    let next = ended.session;
     let after = next.phase;
     if lines::has_stopped(after) {
         return Fed {
             session: next,
             used: chunk.len(),
-            wrote: e.wrote,
+            wrote: ended.wrote,
         };
     }
-    lines::feed_later(next, chunk, end + 1, out, e.wrote)
+    lines::feed_later(next, chunk, end + 1, out, ended.wrote)
 }
 
 // Writes the record of a last line that lacks its line feed, or of an empty input, and says how many bytes that took.
-pub fn finish(s: Session, out: &mut [u8; 84]) -> usize
-    ensures { λ r. ⌜ r ≡ length (lastText (progressOf s)) ⌝ }
-    ensures { λ _. ⌜ now (out .exit) ≡ sets (now (out .entry)) 0 (lastText (progressOf s)) ⌝ }
+pub fn finish(session: Session, out: &mut [u8; LONGEST_RECORD]) -> usize
+    ensures { λ r. ⌜ r ≡ length (lastText (progressOf session)) ⌝ }
+    ensures { λ _. ⌜ now (out .exit) ≡ sets (now (out .entry)) 0 (lastText (progressOf session)) ⌝ }
     ensures { λ r. ⌜ Bounds 0 r [] (now (out .exit)) ⌝ }
 {
-    let phase = s.phase;
-    let line = s.line;
-    let held = chunk::held_length(&line, s.length);
+    let phase = session.phase;
+    let line = session.line;
+    let held = chunk::held_length(&line, session.length);
     if lines::is_later(phase) & (held == 0) {
         return 0;
     }
     let buffer: &mut [u8] = out;
-    let e = lines::end_line(s, buffer);
-    e.wrote
+    let ended = lines::end_line(session, buffer);
+    ended.wrote
 }

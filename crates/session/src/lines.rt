@@ -6,27 +6,33 @@ ghost use mathlib.Core.Path.{_≡_};
 ghost use Prim.Native.Nat.{min, _-_, _≤_};
 ghost use lib.ListN.{drop, length, replicate};
 ghost use Rattle.model.specs.Fresh.{admissible, fresh};
-ghost use Rattle.state.specs.Parts.{machineOf, stateOf};
-ghost use Rattle.session.specs.Parts.{EndedBy, FedFrom, blankIn, hasStopped, isLater};
+ghost use Rattle.state.specs.Lent.{lent};
+ghost use Rattle.session.specs.SessionParts.{EndedBy, FedFrom, blankIn, hasStopped, isLater};
 ghost use Rattle.session.specs.Session.{begun, ended, extended, fed, first, kept, later, lentOf, progressIn, progressOf, stateIn};
 ghost use Rattle.chunk.specs.Chunk.{held};
+ghost use Rattle.script.specs.ListingLine.{listingLine, longestRecord};
+ghost use lib.Seq.{sets};
 use crate::Fed;
+use crate::LONGEST_RECORD;
 use crate::Phase;
 use crate::Session;
-use crate::answer::answer_line;
+use crate::line_answer::answer_line;
+use crate::listing_record::line_number;
+use crate::listing_record::next_number;
+use crate::listing_record::write_record;
+use chunk::KEPT_BYTES;
+use listing::Shown;
 use model::machine::FirstLine;
+use model::quantity::Level;
 use partition::level::Levels;
+use partition::mask::Masks;
 use processor::record::Record;
 use script::Start;
-use script::listing::write_line;
-use state::formed::well_formed;
 use state::fresh::fresh_levels;
 use state::fresh::fresh_masks;
 use state::fresh::fresh_record;
 use state::fresh::setup_of;
-
-// The longest record has so many bytes.
-pub const LONGEST: usize = 84;
+use state::well_formed_state::well_formed;
 
 // The session after a line, and how many bytes its record has.
 pub struct Written {
@@ -56,17 +62,17 @@ pub(crate) fn is_later(phase: Phase) -> bool
 }
 
 // The session of a phase with the machine that a first line describes. It holds nothing of a line, and all words are 0.
-fn opened(phase: Phase, number: u64, f: FirstLine, lent: usize) -> Session
+fn opened(phase: Phase, number: u64, first: FirstLine, lent: usize) -> Session
     ensures progress { λ r. ⌜ progressOf r ≡ progressIn phase number (stateIn r) [] ⌝ }
-    ensures state { λ r. ⌜ stateIn r ≡ stateOf (fresh f .machine) (lentOf (replicate 64 0) lent) ⌝ }
+    ensures state { λ r. ⌜ stateIn r ≡ record { machine = fresh first .machine; words = lentOf (replicate 64 0) lent } ⌝ }
 {
     let record = fresh_record();
     Session {
         phase,
         number,
         length: 0,
-        line: [0; 257],
-        setup: setup_of(f),
+        line: [0; KEPT_BYTES],
+        setup: setup_of(first),
         levels: fresh_levels(),
         masks: fresh_masks(),
         first: record,
@@ -84,7 +90,7 @@ pub(crate) fn blank(phase: Phase) -> Session
 {
     let none = FirstLine {
         processors: 0,
-        max_level: 0,
+        max_level: Level(0),
         pages: 0,
         dr6_shared: 0,
         host_mask: 0,
@@ -94,17 +100,17 @@ pub(crate) fn blank(phase: Phase) -> Session
 
 // The session before a later line, with the machine and the words that the line before it left.
 fn resume(
-    s: Session,
+    start: Session,
     number: u64,
     levels: Levels,
-    masks: [u64; 256],
+    masks: Masks,
     vps: [Record; 4],
     words: [u64; 64],
 ) -> Session
-    ensures { λ r. ⌜ progressOf r ≡ later number (stateOf (machineOf (s .setup) levels masks vps) (lentOf words (s .lent))) [] ⌝ }
+    ensures { λ r. ⌜ progressOf r ≡ later number (lent (start .setup) levels masks vps (lentOf words (start .lent))) [] ⌝ }
 {
-    let line = s.line;
-    let setup = s.setup;
+    let line = start.line;
+    let setup = start.setup;
     let first = vps[0];
     let second = vps[1];
     let third = vps[2];
@@ -121,7 +127,7 @@ fn resume(
         second,
         third,
         fourth,
-        lent: s.lent,
+        lent: start.lent,
         words,
     }
 }
@@ -130,46 +136,60 @@ fn resume(
 pub(crate) fn keep(start: Session, more: &[u8]) -> Session
     ensures { λ r. ⌜ progressOf r ≡ kept (extended (progressOf start) (now (more .entry))) ⌝ }
 {
-    let mut s = start;
-    let length = s.length;
-    s.length = chunk::append(&mut s.line, length, more);
-    s
+    let mut session = start;
+    let length = session.length;
+    session.length = chunk::append(&mut session.line, length, more);
+    session
+}
+
+// Writes the record of line 0 at the start of `out`, with this answer, and returns the place after it.
+fn write_first(out: &mut [u8], answer: u64) -> usize
+    requires { ⌜ longestRecord ≤ length (now out) ⌝ }
+    ensures { λ r. ⌜ r ≡ length (listingLine 0 answer 0 0) ⌝ }
+    ensures { λ _. ⌜ now (out .exit) ≡ sets (now (out .entry)) 0 (listingLine 0 answer 0 0) ⌝ }
+{
+    let shown = Shown {
+        answer,
+        value: 0,
+        level: Level(0),
+    };
+    write_record(out, 0, line_number(0), shown)
 }
 
 // Refuses the first line: the session stops.
 fn refuse_first(out: &mut [u8]) -> Written
-    requires { ⌜ 84 ≤ length (now out) ⌝ }
+    requires { ⌜ longestRecord ≤ length (now out) ⌝ }
     ensures { λ r. ⌜ EndedBy (begun none) r (now (out .entry)) (now (out .exit)) ⌝ }
 {
     let session = blank(Phase::Stopped);
-    let wrote = write_line(out, 0, 0, 1, 0, 0);
+    let wrote = write_first(out, 1);
     Written { session, wrote }
 }
 
 // Begins with the machine that the first line describes. All words are 0.
-fn begin(f: FirstLine, out: &mut [u8]) -> Written
-    requires { ⌜ 84 ≤ length (now out) ⌝ }
-    requires { ⌜ admissible f ≡ true ⌝ }
-    ensures { λ r. ⌜ EndedBy (begun (some (fresh f))) r (now (out .entry)) (now (out .exit)) ⌝ }
+fn begin(first: FirstLine, out: &mut [u8]) -> Written
+    requires { ⌜ longestRecord ≤ length (now out) ⌝ }
+    requires { ⌜ admissible first ≡ true ⌝ }
+    ensures { λ r. ⌜ EndedBy (begun (some (fresh first))) r (now (out .entry)) (now (out .exit)) ⌝ }
 {
-    let session = opened(Phase::Later, 1, f, f.pages as usize);
-    let wrote = write_line(out, 0, 0, 0, 0, 0);
+    let session = opened(Phase::Later, 1, first, first.pages as usize);
+    let wrote = write_first(out, 0);
     Written { session, wrote }
 }
 
 // Ends the first line.
-fn end_first(s: Session, out: &mut [u8]) -> Written
-    requires { ⌜ 84 ≤ length (now out) ⌝ }
-    ensures { λ r. ⌜ EndedBy (ended (first (held (s .line) (s .length)))) r (now (out .entry)) (now (out .exit)) ⌝ }
+fn end_first(start: Session, out: &mut [u8]) -> Written
+    requires { ⌜ longestRecord ≤ length (now out) ⌝ }
+    ensures { λ r. ⌜ EndedBy (ended (first (held (start .line) (start .length)))) r (now (out .entry)) (now (out .exit)) ⌝ }
 {
-    let line = s.line;
-    let Start::First(f) = chunk::parse_first(&line, s.length) else {
+    let line = start.line;
+    let Start::First(first) = chunk::parse_first(&line, start.length) else {
         return refuse_first(out);
     };
-    if !state::fresh::admissible(f) {
+    if !state::fresh::admissible(first) {
         return refuse_first(out);
     }
-    begin(f, out)
+    begin(first, out)
 }
 
 // How many words of a session's array are lent.
@@ -182,59 +202,58 @@ fn lent_words(words: &[u64; 64], lent: usize) -> usize
 }
 
 // The records of the four processors of a session.
-fn records(s: Session) -> [Record; 4]
-    ensures { λ r. ⌜ r ≡ s .first ∷ s .second ∷ s .third ∷ s .fourth ∷ [] ⌝ }
+fn records(start: Session) -> [Record; 4]
+    ensures { λ r. ⌜ r ≡ start .first ∷ start .second ∷ start .third ∷ start .fourth ∷ [] ⌝ }
 {
-    let first = s.first;
-    let second = s.second;
-    let third = s.third;
-    let fourth = s.fourth;
+    let first = start.first;
+    let second = start.second;
+    let third = start.third;
+    let fourth = start.fourth;
     [first, second, third, fourth]
 }
 
 // Ends a later line.
-fn end_later(s: Session, out: &mut [u8]) -> Written
-    requires { ⌜ 84 ≤ length (now out) ⌝ }
-    ensures { λ r. ⌜ EndedBy (ended (later (s .number) (stateIn s) (held (s .line) (s .length)))) r (now (out .entry)) (now (out .exit)) ⌝ }
+fn end_later(start: Session, out: &mut [u8]) -> Written
+    requires { ⌜ longestRecord ≤ length (now out) ⌝ }
+    ensures { λ r. ⌜ EndedBy (ended (later (start .number) (stateIn start) (held (start .line) (start .length)))) r
+        (now (out .entry)) (now (out .exit)) ⌝ }
 {
-    let line = s.line;
-    let number = s.number;
+    let line = start.line;
+    let number = start.number;
     let next = std::num::wrapping_add_u64(number, 1);
-    let setup = s.setup;
-    let mut levels = s.levels;
-    let mut masks = s.masks;
-    let mut vps = records(s);
-    let mut words = s.words;
-    let lent = lent_words(&words, s.lent);
+    let setup = start.setup;
+    let mut levels = start.levels;
+    let mut masks = start.masks;
+    let mut vps = records(start);
+    let mut words = start.words;
+    let lent = lent_words(&words, start.lent);
     let formed = well_formed(setup, &levels, &masks, &vps, &words[..lent]);
-    let size = chunk::held_length(&line, s.length);
-    let wrote = answer_line(
+    let size = chunk::held_length(&line, start.length);
+    let shown = answer_line(
         formed,
         setup,
         &mut levels,
         &mut masks,
         &mut vps,
         &mut words[..lent],
-        number,
         &line[..size],
-        out,
-        0,
     );
-    let session = resume(s, next, levels, masks, vps, words);
+    let wrote = write_record(out, 0, line_number(number), shown);
+    let session = resume(start, next, levels, masks, vps, words);
     Written { session, wrote }
 }
 
 // Ends the line whose bytes the session holds.
-pub(crate) fn end_line(s: Session, out: &mut [u8]) -> Written
-    requires { ⌜ 84 ≤ length (now out) ⌝ }
-    ensures { λ r. ⌜ EndedBy (ended (progressOf s)) r (now (out .entry)) (now (out .exit)) ⌝ }
+pub(crate) fn end_line(start: Session, out: &mut [u8]) -> Written
+    requires { ⌜ longestRecord ≤ length (now out) ⌝ }
+    ensures { λ r. ⌜ EndedBy (ended (progressOf start)) r (now (out .entry)) (now (out .exit)) ⌝ }
 {
-    let phase = s.phase;
+    let phase = start.phase;
     match phase {
-        Phase::First => end_first(s, out),
-        Phase::Later => end_later(s, out),
+        Phase::First => end_first(start, out),
+        Phase::Later => end_later(start, out),
         Phase::Stopped => Written {
-            session: s,
+            session: start,
             wrote: 0,
         },
     }
@@ -252,49 +271,49 @@ pub(crate) fn feed_later(
 ) -> Fed
     requires { ⌜ from ≤ length (now chunk) ⌝ }
     requires { ⌜ at ≤ length (now out) ⌝ }
-    ensures { λ r. ⌜ FedFrom from at (fed (later (start .number) (stateIn start) []) (drop from (now (chunk .entry))) (length (now (out .entry)) - at)) r (now (out .entry)) (now (out .exit)) ⌝ }
+    ensures { λ r. ⌜ FedFrom from at
+        (fed (later (start .number) (stateIn start) []) (drop from (now (chunk .entry))) (length (now (out .entry)) - at))
+        r (now (out .entry)) (now (out .exit)) ⌝ }
 {
     let setup = start.setup;
     let mut levels = start.levels;
     let mut masks = start.masks;
     let mut vps = records(start);
     let mut words = start.words;
-    let mut number = start.number;
+    let mut line = line_number(start.number);
     let lent = lent_words(&words, start.lent);
     let formed = well_formed(setup, &levels, &masks, &vps, &words[..lent]);
     let mut i = from;
-    let mut o = at;
+    let mut wrote = at;
     loop {
         let end = chunk::line_end(chunk, i);
         if chunk.len() <= end {
-            let session = resume(start, number, levels, masks, vps, words);
+            let session = resume(start, line.number, levels, masks, vps, words);
             return Fed {
                 session: keep(session, &chunk[i..]),
                 used: end,
-                wrote: o,
+                wrote,
             };
         }
-        if out.len() - o < LONGEST {
+        if out.len() - wrote < LONGEST_RECORD {
             return Fed {
-                session: resume(start, number, levels, masks, vps, words),
+                session: resume(start, line.number, levels, masks, vps, words),
                 used: i,
-                wrote: o,
+                wrote,
             };
         }
-        let line = &chunk[i..end];
+        let bytes = &chunk[i..end];
         i = end + 1;
-        o = answer_line(
+        let shown = answer_line(
             formed,
             setup,
             &mut levels,
             &mut masks,
             &mut vps,
             &mut words[..lent],
-            number,
-            line,
-            out,
-            o,
+            bytes,
         );
-        number = std::num::wrapping_add_u64(number, 1);
+        wrote = write_record(out, wrote, line, shown);
+        line = next_number(line);
     }
 }

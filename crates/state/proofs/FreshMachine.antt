@@ -1,19 +1,20 @@
 -- The machine whose parts the functions of src/fresh.rt give is the fresh machine of the first line (01, "The bench model").
 -- Assumes nothing.
 use mathlib.Core.Path.{_≡_}
-use mathlib.Core.Bool.{true, false}
-use mathlib.Core.List.{List, _∷_}
+use mathlib.Core.List.{List}
 use Prim.Native.Nat.{ℕ}
 use lib.ListN.{replicate}
 use Rattle.model.specs.declared.machine.FirstLine.{FirstLine}
-use Rattle.model.specs.Fresh.{freshVp, freshLevel, fresh}
-use Rattle.partition.specs.Levels.{levelsOf}
+use Rattle.model.specs.declared.machine.Setup.{Setup}
+use Rattle.model.specs.Fresh.{freshVp, freshPartition, fresh}
+use Rattle.model.specs.Updates.{withMasks}
+use Rattle.partition.specs.PartitionView.{partitionOf}
 use Rattle.processor.specs.Record.{vpOf}
-use Rattle.state.specs.declared.parts.Setup.{Setup}
-use Rattle.state.specs.Parts.{machineOf, setupOf}
+use Rattle.state.specs.Lent.{machineOf, setupOf}
 
-pub fresh-machine : (f : FirstLine) (c : Setup) (levels masks words : List ℕ)
-    → c ≡ setupOf f → levelsOf levels ≡ freshLevel true ∷ replicate 3 (freshLevel false) → masks ≡ replicate 256 15 → vpOf words ≡ freshVp
-    → machineOf c levels masks (replicate 4 words) ≡ fresh f .machine
+pub fresh-machine : (f : FirstLine) (setup : Setup) (levels masks words : List ℕ)
+    → setup ≡ setupOf f → ((ks : List ℕ) → partitionOf levels ks ≡ withMasks freshPartition ks)
+    → masks ≡ freshPartition .masks → vpOf words ≡ freshVp
+    → machineOf setup levels masks (replicate 4 words) ≡ fresh f .machine
 unfolding machineOf fresh
-fresh-machine f c levels masks words setup ranks rights blank = rw (setup, ranks, rights, blank)
+fresh-machine f setup levels masks words same sets rights blank = rw (same, sets masks, rights, blank)

@@ -1,5 +1,5 @@
--- The laws that the proofs of src/ share. Assumes nothing.
-pub mod Forms  -- the tests of well-formed processors
-pub mod Places  -- well-formed states: the clauses place by place are the model's
+-- The laws that the proofs of src/ and of the crates above share (01, "The bench model" and "Well formed"). The other folders here
+-- prove the functions of src/. Assumes nothing.
+pub mod FormedClauses  -- clauses of a well-formed state that the code tests in another form or order
 pub mod FreshMachine  -- the fresh machine of its parts
-pub mod Entries  -- a list by its entries
+pub mod OneState  -- one state, one lot of parts

@@ -1,3 +1,4 @@
-pub mod Parts  -- the machine of its parts
-pub mod Formed  -- well-formed states, place by place
-pub mod Processor  -- a well-formed processor, told of the partition by sets
+-- The state as code lends it, in parts (01, "The bench model"). The rules themselves are definitions of crate `model`.
+-- Assumes nothing.
+pub mod Lent  -- the state of its parts
+pub mod SecureWord  -- a well-formed secure configuration word

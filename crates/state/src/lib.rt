@@ -1,6 +1,5 @@
-// The state of a machine: its parts, is it well formed, and the parts that a first line describes (01, "The bench model").
-pub mod parts; // what stays the same in a run
-pub mod formed; // well-formed states
+// The state of a machine in its lent parts (01, "The bench model" and "Well formed"): is it well formed, and the parts that a first
+// line describes. The public functions ask nothing of their caller.
 pub mod fresh; // the machine of a first line
-mod formed_processor; // well-formed processors
-mod typed; // a record as a typed value
+pub mod well_formed_state; // well-formed states
+mod well_formed_vp; // well-formed processors

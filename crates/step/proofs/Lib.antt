@@ -1,4 +1,4 @@
--- The laws that the proofs of src/ share. Assumes nothing.
-pub mod Missing  -- a processor that is not there
-pub mod Lifted  -- what an event's function says of its parts, said of the machine
-pub mod Whole  -- a step on a state that is known to be well formed or not
+-- The laws that lift what the functions of the events promise to the whole state.
+pub mod LentParts  -- the parts of the lent state
+pub mod MissingProcessor  -- an event whose processor or mode is not there
+pub mod KnownFormed  -- a step on a state that is known to be well formed or not

@@ -1,125 +1,120 @@
 // One event on a whole machine (01, "Events"). What the machine holds of levels, pages and processors is lent and changed in place,
-// as the words of the pages are: no event copies more than it changes. `machineOf` of crate `state` says which machine the parts are.
-ghost use mathlib.Core.Bool.{true, false, cond};
+// as the words of the pages are: no event copies more than it changes. `lent` of crate `state` says which state the parts are.
+ghost use mathlib.Core.Bool.{true, cond};
 ghost use mathlib.Core.List.{List};
 ghost use mathlib.Core.Path.{_≡_};
-ghost use Prim.Native.Nat.{ℕ, _≤_, _<_};
-ghost use lib.Dec.{ltb};
+ghost use Prim.Native.Nat.{ℕ, _≤_};
 ghost use lib.ListN.{length};
-ghost use Rattle.model.specs.declared.event.Event.the-variants.{Made};
-ghost use Rattle.model.specs.Step.{ruled as ruledOf, step as stepOf};
 ghost use Rattle.word.specs.Field.{bit};
 ghost use Rattle.model.specs.Bounded.{any};
 ghost use Rattle.model.specs.Events.{locked as lockedFor};
-ghost use Rattle.model.specs.State.{noVp, secureOf, lockBit};
+ghost use Rattle.model.specs.State.{isIndex, noVp, secureOf, lockBit};
+ghost use Rattle.model.specs.Step.{acted as actedOf, ruled as ruledOf, step as stepOf};
 ghost use Rattle.processor.specs.Record.{vpOf};
-ghost use Rattle.events.specs.Scope.{scopeOf};
-ghost use Rattle.state.specs.Parts.{machineOf, stateOf};
-ghost use Rattle.step.specs.Stepped.{known, stepIf};
+ghost use Rattle.promise.specs.Promise.{result};
+ghost use Rattle.state.specs.Lent.{lent};
+ghost use Rattle.step.specs.Stepped.{stepIf};
+use access_events::Request;
 use access_events::access;
+use entry_events::ack;
 use entry_events::call;
 use entry_events::envp;
 use entry_events::int;
 use entry_events::ret;
-use events::level_events::config;
-use events::level_events::enpart;
-use events::level_events::protect;
-use events::scope::Scope;
-use events::status_events::flush;
-use events::status_events::pstat;
+use level_events::config;
+use level_events::enpart;
+use level_events::protect;
 use model::answer::Answer;
 use model::answer::Refusal;
 use model::event::Action;
 use model::event::Event;
+use model::machine::Setup;
 use model::machine::Shape;
 use model::quantity::Access;
+use model::quantity::Level;
+use model::quantity::Mode;
 use model::quantity::Processor;
+use model::quantity::mode_of;
 use partition::level::Levels;
-use partition::level::enabled_level_set;
-use partition::level::mbec_level_set;
+use partition::mask::Masks;
+use processor::control::InitialContext;
 use processor::record::Record;
 use processor::record::active_of;
 use processor::secure::holds_lock;
-use record_events::ack;
-use record_events::caps;
-use record_events::rreg;
-use record_events::secure;
-use record_events::tpr;
-use record_events::vstat;
-use record_events::wreg;
-use state::formed::well_formed;
-use state::parts::Setup;
+use register_events::rreg;
+use register_events::secure;
+use register_events::tpr;
+use register_events::wreg;
+use state::well_formed_state::well_formed;
+use status_events::caps;
+use status_events::flush;
+use status_events::pstat;
+use status_events::vstat;
 
-// Is v one of so many processors?
-fn is_processor(processors: u64, v: Processor) -> bool
-    ensures { λ r. ⌜ r ≡ known processors (v .0) ⌝ }
+// What a level does: the processor on which it is active, the mode, and the action.
+struct Operation {
+    vp: Processor,
+    mode: Mode,
+    action: Action,
+}
+
+// Is it one of so many processors?
+fn is_processor(processors: u64, vp: Processor) -> bool
+    ensures { λ r. ⌜ r ≡ isIndex processors (vp .0) ⌝ }
 {
-    (v.0 < processors) & (v.0 < 4)
+    (vp.0 < processors) & (vp.0 < 4)
 }
 
 // How many records are lent. A proof that stores into one asks that there are four.
-fn places(vps: &[Record; 4]) -> usize
+fn record_count(vps: &[Record; 4]) -> usize
     ensures { λ _. ⌜ length (now (vps .entry)) ≡ 4 ⌝ }
 {
     let all: &[Record] = vps;
     all.len()
 }
 
-// The scope of an event that processor v makes.
-fn scope(c: Setup, levels: &Levels, vps: &[Record; 4], v: Processor) -> Scope
-    requires { ⌜ known (c .processors) (v .0) ≡ true ⌝ }
-    ensures { λ r. ⌜ ((masks words : List ℕ) → r ≡ scopeOf (stateOf (machineOf c (now (levels .entry)) masks (now (vps .entry))) words) (v .0)) ⌝ }
+// Does a level hold a TLB lock on this one, if there is a processor with that record?
+fn lock_at(there: bool, shape: Shape, vp: &Record, level: Level) -> bool
+    ensures { λ r. ⌜ r ≡ any 4 (λ t. bit (secureOf shape (cond there (vpOf (now (vp .entry))) noVp) t (level .0)) lockBit) ⌝ }
 {
-    let shape = c.shape;
-    let i = v.0 as usize;
-    Scope {
-        shape,
-        processors: c.processors,
-        pages: c.pages,
-        actor: active_of(&vps[i]),
-        enabled: enabled_level_set(shape, levels),
-        mbec: mbec_level_set(shape, levels),
-    }
-}
-
-// Does a level hold a TLB lock on level l, if there is a processor with that record?
-fn lock_at(there: bool, z: Shape, p: &Record, l: u64) -> bool
-    ensures { λ r. ⌜ r ≡ any 4 (λ t. bit (secureOf z (cond there (vpOf (now (p .entry))) noVp) t l) lockBit) ⌝ }
-{
-    let held = holds_lock(z, p, l);
+    let held = holds_lock(shape, vp, level);
     there & held
 }
 
-// flush: does a level hold a TLB lock on level l on any processor?
-fn locked(c: Setup, vps: &[Record; 4], l: u64) -> bool
-    ensures { λ r. ⌜ ((levels masks words : List ℕ) → lockedFor (stateOf (machineOf c levels masks (now (vps .entry))) words) l ≡ r) ⌝ }
+// flush: does a level hold a TLB lock on this one on any processor?
+fn locked(setup: Setup, vps: &[Record; 4], level: Level) -> bool
+    ensures { λ r. ⌜ ((levels masks words : List ℕ)
+        → lockedFor (lent setup levels masks (now (vps .entry)) words) (level .0) ≡ r) ⌝ }
 {
-    let zeroth = lock_at(0 < c.processors, c.shape, &vps[0], l);
-    let first = lock_at(1 < c.processors, c.shape, &vps[1], l);
-    let second = lock_at(2 < c.processors, c.shape, &vps[2], l);
-    let third = lock_at(3 < c.processors, c.shape, &vps[3], l);
+    let zeroth = lock_at(0 < setup.processors, setup.shape, &vps[0], level);
+    let first = lock_at(1 < setup.processors, setup.shape, &vps[1], level);
+    let second = lock_at(2 < setup.processors, setup.shape, &vps[2], level);
+    let third = lock_at(3 < setup.processors, setup.shape, &vps[3], level);
     zeroth | first | second | third
 }
 
-// The rule of what a level does on processor v, which is there, in a mode of 0 or 1.
+// The rule of what a level does on a processor that is there.
 fn acted(
-    c: Setup,
+    setup: Setup,
     levels: &mut Levels,
-    masks: &mut [u64; 256],
+    masks: &mut Masks,
     vps: &mut [Record; 4],
     words: &mut [u64],
-    v: Processor,
-    mode: u64,
-    a: Action,
+    operation: Operation,
 ) -> Answer
-    requires { ⌜ (c .processors ≤ 4) × (known (c .processors) (v .0) ≡ true) × (ltb 1 mode ≡ false) ⌝ }
-    ensures { λ r. ⌜ record { answer = r; next = stateOf (machineOf c (now (levels .exit)) (now (masks .exit)) (now (vps .exit))) (now (words .exit)) } ≡ ruledOf (stateOf (machineOf c (now (levels .entry)) (now (masks .entry)) (now (vps .entry))) (now (words .entry))) (Made v mode a) ⌝ }
+    requires { ⌜ (setup .processors ≤ 4) × (isIndex (setup .processors) (operation .vp .0) ≡ true) ⌝ }
+    ensures { λ r. ⌜ result r (lent setup (now (levels .exit)) (now (masks .exit)) (now (vps .exit)) (now (words .exit)))
+        ≡ actedOf (lent setup (now (levels .entry)) (now (masks .entry)) (now (vps .entry)) (now (words .entry)))
+        (operation .vp .0) (operation .mode) (operation .action) ⌝ }
 {
-    let given = scope(c, levels, vps, v);
-    places(vps);
-    let i = v.0 as usize;
-    match a {
-        Action::Enpart { target, mbec } => enpart(given, levels, mode, target, mbec),
+    let shape = setup.shape;
+    let mode = operation.mode;
+    let action = operation.action;
+    record_count(vps);
+    let i = operation.vp.0 as usize;
+    let actor = active_of(&vps[i]);
+    match action {
+        Action::Enpart { target, mbec } => enpart(shape, levels, actor, mode, target, mbec),
         Action::Envp {
             on,
             target,
@@ -127,101 +122,98 @@ fn acted(
             rsp,
             cr0,
         } => {
-            if !is_processor(c.processors, on) {
-                return Answer::Refused(Refusal::NoSuchProcessor);
+            if !is_processor(setup.processors, on) {
+                return Answer::Refused(Refusal::NoSuchTarget);
             }
             let j = on.0 as usize;
-            envp(given, &mut vps[j], mode, on, target, rip, rsp, cr0)
+            let initial = InitialContext { rip, rsp, cr0 };
+            envp(shape, levels, &mut vps[j], actor, mode, target, initial)
         }
-        Action::Call { length } => call(given, &mut vps[i], mode, length),
-        Action::Ret { length } => ret(given, &mut vps[i], mode, length),
-        Action::Read { page } => access(
-            given,
-            &mut vps[i],
-            levels,
-            masks,
-            c.host_mask,
-            words,
-            mode,
-            page,
-            Access::Read,
-            0,
-        ),
-        Action::Write { page, value } => access(
-            given,
-            &mut vps[i],
-            levels,
-            masks,
-            c.host_mask,
-            words,
-            mode,
-            page,
-            Access::Write,
-            value,
-        ),
-        Action::Fetch { page } => access(
-            given,
-            &mut vps[i],
-            levels,
-            masks,
-            c.host_mask,
-            words,
-            mode,
-            page,
-            Access::Fetch,
-            0,
-        ),
-        Action::Protect { page, mask } => protect(given, levels, masks, mode, page, mask),
-        Action::Config { target, word } => config(given, levels, masks, mode, target, word),
-        Action::Secure { target, word } => secure(given, &mut vps[i], mode, target, word),
+        Action::Call { length } => call(shape, &mut vps[i], mode, length),
+        Action::Ret { length } => ret(shape, &mut vps[i], mode, length),
+        Action::Read { page } => {
+            let request = Request {
+                mode,
+                page,
+                access: Access::Read,
+            };
+            access(setup, &mut vps[i], levels, masks, words, request, 0)
+        }
+        Action::Write { page, value } => {
+            let request = Request {
+                mode,
+                page,
+                access: Access::Write,
+            };
+            access(setup, &mut vps[i], levels, masks, words, request, value)
+        }
+        Action::Fetch { page } => {
+            let request = Request {
+                mode,
+                page,
+                access: Access::Fetch,
+            };
+            access(setup, &mut vps[i], levels, masks, words, request, 0)
+        }
+        Action::Protect { page, mask } => protect(setup, levels, masks, actor, mode, page, mask),
+        Action::Config { target, word } => config(setup, levels, masks, actor, mode, target, word),
+        Action::Secure { target, word } => secure(shape, levels, &mut vps[i], mode, target, word),
         Action::Flush => {
-            let held = locked(c, vps, given.actor);
+            let held = locked(setup, vps, actor);
             flush(held, mode)
         }
-        Action::Rreg { target, register } => rreg(given, &vps[i], mode, target, register),
+        Action::Rreg { target, register } => rreg(shape, &vps[i], mode, target, register),
         Action::Wreg {
             target,
             register,
             value,
-        } => wreg(given, &mut vps[i], mode, target, register, value),
-        Action::Tpr { class } => tpr(given, &mut vps[i], mode, class),
-        Action::Ack => ack(given, &mut vps[i], mode),
-        Action::Pstat => pstat(given, mode),
-        Action::Vstat => vstat(given, &vps[i], mode),
-        Action::Caps => caps(given, mode),
+        } => wreg(shape, &mut vps[i], mode, target, register, value),
+        Action::Tpr { class } => tpr(shape, &mut vps[i], mode, class),
+        Action::Ack => ack(shape, &mut vps[i], mode),
+        Action::Pstat => pstat(shape, levels, mode),
+        Action::Vstat => vstat(shape, &vps[i], mode),
+        Action::Caps => caps(shape, mode),
     }
 }
 
-// The rule of an event. Its processor and its mode are looked at first: without them it is malformed.
+// The rule of an event. Its processor and its mode are looked at here, once for all events.
 fn ruled(
-    c: Setup,
+    setup: Setup,
     levels: &mut Levels,
-    masks: &mut [u64; 256],
+    masks: &mut Masks,
     vps: &mut [Record; 4],
     words: &mut [u64],
-    e: Event,
+    event: Event,
 ) -> Answer
-    requires { ⌜ c .processors ≤ 4 ⌝ }
-    ensures { λ r. ⌜ record { answer = r; next = stateOf (machineOf c (now (levels .exit)) (now (masks .exit)) (now (vps .exit))) (now (words .exit)) } ≡ ruledOf (stateOf (machineOf c (now (levels .entry)) (now (masks .entry)) (now (vps .entry))) (now (words .entry))) e ⌝ }
+    requires { ⌜ setup .processors ≤ 4 ⌝ }
+    ensures { λ r. ⌜ result r (lent setup (now (levels .exit)) (now (masks .exit)) (now (vps .exit)) (now (words .exit)))
+        ≡ ruledOf (lent setup (now (levels .entry)) (now (masks .entry)) (now (vps .entry)) (now (words .entry))) event ⌝ }
 {
-    match e {
+    match event {
         Event::Made { vp, mode, action } => {
-            if !is_processor(c.processors, vp) {
+            if !is_processor(setup.processors, vp) {
                 return Answer::Refused(Refusal::NoSuchProcessor);
             }
             if 1 < mode {
                 return Answer::Refused(Refusal::NoSuchMode);
             }
-            acted(c, levels, masks, vps, words, vp, mode, action)
+            let mode = mode_of(mode);
+            acted(
+                setup,
+                levels,
+                masks,
+                vps,
+                words,
+                Operation { vp, mode, action },
+            )
         }
         Event::Int { on, target, vector } => {
-            if !is_processor(c.processors, on) {
-                return Answer::Refused(Refusal::NoSuchProcessor);
+            if !is_processor(setup.processors, on) {
+                return Answer::Refused(Refusal::NoSuchTarget);
             }
-            let given = scope(c, levels, vps, on);
-            places(vps);
+            record_count(vps);
             let j = on.0 as usize;
-            int(given, &mut vps[j], on, target, vector)
+            int(setup.shape, &mut vps[j], target, vector)
         }
     }
 }
@@ -230,34 +222,36 @@ fn ruled(
 // answer 1, and nothing changes. A run that begins well formed stays so: whoever makes one asks once.
 pub fn step_if(
     formed: bool,
-    c: Setup,
+    setup: Setup,
     levels: &mut Levels,
-    masks: &mut [u64; 256],
+    masks: &mut Masks,
     vps: &mut [Record; 4],
     words: &mut [u64],
-    e: Event,
+    event: Event,
 ) -> Answer
-    ensures { λ r. ⌜ record { answer = r; next = stateOf (machineOf c (now (levels .exit)) (now (masks .exit)) (now (vps .exit))) (now (words .exit)) } ≡ stepIf formed (stateOf (machineOf c (now (levels .entry)) (now (masks .entry)) (now (vps .entry))) (now (words .entry))) e ⌝ }
+    ensures { λ r. ⌜ result r (lent setup (now (levels .exit)) (now (masks .exit)) (now (vps .exit)) (now (words .exit)))
+        ≡ stepIf formed (lent setup (now (levels .entry)) (now (masks .entry)) (now (vps .entry)) (now (words .entry))) event ⌝ }
 {
     if formed {
-        if c.processors <= 4 {
-            return ruled(c, levels, masks, vps, words, e);
+        if setup.processors <= 4 {
+            return ruled(setup, levels, masks, vps, words, event);
         }
     }
-    Answer::Refused(Refusal::Malformed)
+    Answer::Refused(Refusal::NotWellFormed)
 }
 
 // One event on a machine with the words of its pages. A state that is not well formed gets answer 1, and nothing changes.
 pub fn step(
-    c: Setup,
+    setup: Setup,
     levels: &mut Levels,
-    masks: &mut [u64; 256],
+    masks: &mut Masks,
     vps: &mut [Record; 4],
     words: &mut [u64],
-    e: Event,
+    event: Event,
 ) -> Answer
-    ensures { λ r. ⌜ record { answer = r; next = stateOf (machineOf c (now (levels .exit)) (now (masks .exit)) (now (vps .exit))) (now (words .exit)) } ≡ stepOf (stateOf (machineOf c (now (levels .entry)) (now (masks .entry)) (now (vps .entry))) (now (words .entry))) e ⌝ }
+    ensures { λ r. ⌜ result r (lent setup (now (levels .exit)) (now (masks .exit)) (now (vps .exit)) (now (words .exit)))
+        ≡ stepOf (lent setup (now (levels .entry)) (now (masks .entry)) (now (vps .entry)) (now (words .entry))) event ⌝ }
 {
-    let formed = well_formed(c, levels, masks, vps, words);
-    step_if(formed, c, levels, masks, vps, words, e)
+    let formed = well_formed(setup, levels, masks, vps, words);
+    step_if(formed, setup, levels, masks, vps, words, event)
 }

@@ -5,26 +5,30 @@ use mathlib.Core.Path.{_≡_, refl, ap, _∙_}
 use mathlib.Core.Bool.{true}
 use mathlib.Core.Logic.{_↔_}
 use Rattle.word.specs.Layout.{widthOf, lowBits, unpack, reservedClear}
-use Rattle.word.specs.Registers.{Register, packAs, unpackAs}
-use Rattle.word.specs.Registers.{capabilities, partitionStatus, vpStatus, partitionConfig, secureConfig, codePageOffsets}
+use Rattle.word.specs.RegisterLayouts.{Register, packAs, unpackAs}
+use Rattle.word.specs.RegisterLayouts.{capabilities, partitionStatus, vpStatus, partitionConfig, secureConfig, codePageOffsets}
 use Rattle.word.proofs.LayoutLaws.{unpack-pack, pack-unpack, pack-lt, pack-clear}
 
 -- What holds of a register.
-pub record Whole {S : Type 0} (r : Register S) : Type 0 where
+pub record Whole {Structure : Type 0} (register : Register Structure) : Type 0 where
   -- Its layout is 64 bits wide.
-  pub wide : widthOf (r .layout) ≡ 64
+  pub wide : widthOf (register .layout) ≡ 64
   -- A packed structure is a word of 64 bits whose reserved fields are 0.
-  pub packed-lt : (s : S) → packAs r s < 2 ^ 64
-  pub packed-clear : (s : S) → reservedClear (r .layout) (packAs r s) ≡ true
+  pub packed-lt : (contents : Structure) → packAs register contents < 2 ^ 64
+  pub packed-clear : (contents : Structure) → reservedClear (register .layout) (packAs register contents) ≡ true
   -- A structure comes back with each value modulo 2 ^ width, and so as it was where each value fits its field.
-  pub unpack-packed : (s : S) → unpackAs r (packAs r s) ≡ r .structure (lowBits (r .layout) (r .values s))
-  pub unpack-fitting : (s : S) → lowBits (r .layout) (r .values s) ≡ r .values s → unpackAs r (packAs r s) ≡ s
+  pub unpack-packed : (contents : Structure)
+      → unpackAs register (packAs register contents) ≡ register .structure (lowBits (register .layout) (register .values contents))
+  pub unpack-fitting : (contents : Structure) → lowBits (register .layout) (register .values contents) ≡ register .values contents
+      → unpackAs register (packAs register contents) ≡ contents
   -- A word comes back exactly when its reserved fields are 0.
-  pub pack-unpacked : (w : ℕ) → w < 2 ^ 64 → (packAs r (unpackAs r w) ≡ w) ↔ (reservedClear (r .layout) w ≡ true)
+  pub pack-unpacked : (word : ℕ) → word < 2 ^ 64
+      → (packAs register (unpackAs register word) ≡ word) ↔ (reservedClear (register .layout) word ≡ true)
 
 -- All of it follows from the width, and from the structure and its list of values being each other's inverse.
-pub whole : {S : Type 0} (r : Register S) → widthOf (r .layout) ≡ 64
-    → ((w : ℕ) → r .values (unpackAs r w) ≡ unpack (r .layout) w) → ((s : S) → r .structure (r .values s) ≡ s) → Whole r
+pub whole : {Structure : Type 0} (register : Register Structure) → widthOf (register .layout) ≡ 64
+    → ((word : ℕ) → register .values (unpackAs register word) ≡ unpack (register .layout) word)
+    → ((contents : Structure) → register .structure (register .values contents) ≡ contents) → Whole register
 whole r wide values structure =
     record {
       wide = wide;

@@ -24,35 +24,35 @@ widthOf (reserved width ∷ layout) = width + widthOf layout
 
 -- The values of the used fields, in order.
 abbrev pub unpackFrom : ℕ → Layout → ℕ → List ℕ
-unpackFrom offset [] w = []
-unpackFrom offset (used width ∷ layout) w = field offset width w ∷ unpackFrom (offset + width) layout w
-unpackFrom offset (reserved width ∷ layout) w = unpackFrom (offset + width) layout w
+unpackFrom offset [] word = []
+unpackFrom offset (used width ∷ layout) word = field offset width word ∷ unpackFrom (offset + width) layout word
+unpackFrom offset (reserved width ∷ layout) word = unpackFrom (offset + width) layout word
 
--- The word w with each value put into its used field. A value that is missing counts as 0.
+-- The word with each value put into its used field. A value that is missing counts as 0.
 abbrev pub packFrom : ℕ → Layout → List ℕ → ℕ → ℕ
-packFrom offset [] xs w = w
-packFrom offset (used width ∷ layout) xs w = packFrom (offset + width) layout (tail xs) (put offset width w (getD xs 0 0))
-packFrom offset (reserved width ∷ layout) xs w = packFrom (offset + width) layout xs w
+packFrom offset [] values word = word
+packFrom offset (used width ∷ layout) values word = packFrom (offset + width) layout (tail values) (put offset width word (getD values 0 0))
+packFrom offset (reserved width ∷ layout) values word = packFrom (offset + width) layout values word
 
 -- Is each reserved field 0?
 abbrev pub reservedClearFrom : ℕ → Layout → ℕ → Bool
-reservedClearFrom offset [] w = true
-reservedClearFrom offset (used width ∷ layout) w = reservedClearFrom (offset + width) layout w
-reservedClearFrom offset (reserved width ∷ layout) w =
-    eqb (field offset width w) 0 && reservedClearFrom (offset + width) layout w
+reservedClearFrom offset [] word = true
+reservedClearFrom offset (used width ∷ layout) word = reservedClearFrom (offset + width) layout word
+reservedClearFrom offset (reserved width ∷ layout) word =
+    eqb (field offset width word) 0 && reservedClearFrom (offset + width) layout word
 
 -- What a layout keeps of a list of values: for each used field, its value modulo 2 ^ width.
 abbrev pub lowBits : Layout → List ℕ → List ℕ
-lowBits [] xs = []
-lowBits (used width ∷ layout) xs = getD xs 0 0 % 2 ^ width ∷ lowBits layout (tail xs)
-lowBits (reserved width ∷ layout) xs = lowBits layout xs
+lowBits [] values = []
+lowBits (used width ∷ layout) values = getD values 0 0 % 2 ^ width ∷ lowBits layout (tail values)
+lowBits (reserved width ∷ layout) values = lowBits layout values
 
 -- The three for a whole word: from bit 0, and packing from the word 0.
 abbrev pub unpack : Layout → ℕ → List ℕ
-unpack layout w = unpackFrom 0 layout w
+unpack layout word = unpackFrom 0 layout word
 
 abbrev pub pack : Layout → List ℕ → ℕ
-pack layout xs = packFrom 0 layout xs 0
+pack layout values = packFrom 0 layout values 0
 
 abbrev pub reservedClear : Layout → ℕ → Bool
-reservedClear layout w = reservedClearFrom 0 layout w
+reservedClear layout word = reservedClearFrom 0 layout word

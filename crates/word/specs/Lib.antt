@@ -1,5 +1,6 @@
--- The definitions of `word`: one field of a word, a layout of fields, and the six registers of document 001.
+-- The definitions of `word`: one field of a word, a layout of fields, the six registers of document 001, and where their fields stand.
 -- Assumes nothing.
 pub mod Field
 pub mod Layout
-pub mod Registers
+pub mod RegisterLayouts
+pub mod RegisterFields

@@ -1,11 +1,13 @@
-// The six registers of document 001: the structure of each, packed into a word and unpacked from one.
-// Of a value that is packed only the low bits count, as many as its field has. Reserved bits are packed as 0 and
-// passed over. The offsets and widths in the code are those of specs/Registers.antt.
+// The six registers of document 001: the structure of each, packed into a word and unpacked from one; and below them one table of all
+// their used fields, by which a field is read and replaced by its number. Of a value that is packed only the low bits count, as many
+// as its field has. Reserved bits are packed as 0 and passed over. Each offset and width stands here once, as a constant that `pack`,
+// `unpack` and the table take.
 ghost use mathlib.Core.Path.{_≡_};
-ghost use Rattle.word.specs.Registers.{packAs, unpackAs};
-ghost use Rattle.word.specs.Registers.{capabilities, partitionStatus, vpStatus, partitionConfig, secureConfig, codePageOffsets};
-use crate::field::put;
-use crate::field::take;
+ghost use Rattle.word.specs.RegisterFields.{fieldOf, positionOf, withField};
+ghost use Rattle.word.specs.RegisterLayouts.{packAs, unpackAs};
+ghost use Rattle.word.specs.RegisterLayouts.{capabilities, partitionStatus, vpStatus};
+ghost use Rattle.word.specs.RegisterLayouts.{partitionConfig, secureConfig, codePageOffsets};
+use crate::field::FieldPosition;
 
 // What the hypervisor offers: HV_X64_REGISTER_VSM_CAPABILITIES.
 pub struct Capabilities {
@@ -15,21 +17,27 @@ pub struct Capabilities {
 }
 
 impl Capabilities {
+    pub const DENY_LOWER_VTL_STARTUP: FieldPosition = FieldPosition(46, 1);
+
+    pub const MBEC_VTL_MASK: FieldPosition = FieldPosition(47, 16);
+
+    pub const DR6_SHARED: FieldPosition = FieldPosition(63, 1);
+
     pub fn pack(self) -> u64
-        ensures { λ r. ⌜ r ≡ packAs capabilities self ⌝ }
+        ensures { λ result. ⌜ result ≡ packAs capabilities self ⌝ }
     {
-        let word = put(0, 46, 1, self.deny_lower_vtl_startup);
-        let word = put(word, 47, 16, self.mbec_vtl_mask);
-        put(word, 63, 1, self.dr6_shared)
+        let word = Self::DENY_LOWER_VTL_STARTUP.put(0, self.deny_lower_vtl_startup);
+        let word = Self::MBEC_VTL_MASK.put(word, self.mbec_vtl_mask);
+        Self::DR6_SHARED.put(word, self.dr6_shared)
     }
 
     pub fn unpack(word: u64) -> Self
-        ensures { λ r. ⌜ r ≡ unpackAs capabilities word ⌝ }
+        ensures { λ result. ⌜ result ≡ unpackAs capabilities word ⌝ }
     {
         Self {
-            deny_lower_vtl_startup: take(word, 46, 1),
-            mbec_vtl_mask: take(word, 47, 16),
-            dr6_shared: take(word, 63, 1),
+            deny_lower_vtl_startup: Self::DENY_LOWER_VTL_STARTUP.take(word),
+            mbec_vtl_mask: Self::MBEC_VTL_MASK.take(word),
+            dr6_shared: Self::DR6_SHARED.take(word),
         }
     }
 }
@@ -42,21 +50,27 @@ pub struct PartitionStatus {
 }
 
 impl PartitionStatus {
+    pub const ENABLED_VTL_SET: FieldPosition = FieldPosition(0, 16);
+
+    pub const MAXIMUM_VTL: FieldPosition = FieldPosition(16, 4);
+
+    pub const MBEC_ENABLED_VTL_SET: FieldPosition = FieldPosition(20, 16);
+
     pub fn pack(self) -> u64
-        ensures { λ r. ⌜ r ≡ packAs partitionStatus self ⌝ }
+        ensures { λ result. ⌜ result ≡ packAs partitionStatus self ⌝ }
     {
-        let word = put(0, 0, 16, self.enabled_vtl_set);
-        let word = put(word, 16, 4, self.maximum_vtl);
-        put(word, 20, 16, self.mbec_enabled_vtl_set)
+        let word = Self::ENABLED_VTL_SET.put(0, self.enabled_vtl_set);
+        let word = Self::MAXIMUM_VTL.put(word, self.maximum_vtl);
+        Self::MBEC_ENABLED_VTL_SET.put(word, self.mbec_enabled_vtl_set)
     }
 
     pub fn unpack(word: u64) -> Self
-        ensures { λ r. ⌜ r ≡ unpackAs partitionStatus word ⌝ }
+        ensures { λ result. ⌜ result ≡ unpackAs partitionStatus word ⌝ }
     {
         Self {
-            enabled_vtl_set: take(word, 0, 16),
-            maximum_vtl: take(word, 16, 4),
-            mbec_enabled_vtl_set: take(word, 20, 16),
+            enabled_vtl_set: Self::ENABLED_VTL_SET.take(word),
+            maximum_vtl: Self::MAXIMUM_VTL.take(word),
+            mbec_enabled_vtl_set: Self::MBEC_ENABLED_VTL_SET.take(word),
         }
     }
 }
@@ -69,21 +83,27 @@ pub struct VpStatus {
 }
 
 impl VpStatus {
+    pub const ACTIVE_VTL: FieldPosition = FieldPosition(0, 4);
+
+    pub const ACTIVE_MBEC_ENABLED: FieldPosition = FieldPosition(4, 1);
+
+    pub const ENABLED_VTL_SET: FieldPosition = FieldPosition(16, 16);
+
     pub fn pack(self) -> u64
-        ensures { λ r. ⌜ r ≡ packAs vpStatus self ⌝ }
+        ensures { λ result. ⌜ result ≡ packAs vpStatus self ⌝ }
     {
-        let word = put(0, 0, 4, self.active_vtl);
-        let word = put(word, 4, 1, self.active_mbec_enabled);
-        put(word, 16, 16, self.enabled_vtl_set)
+        let word = Self::ACTIVE_VTL.put(0, self.active_vtl);
+        let word = Self::ACTIVE_MBEC_ENABLED.put(word, self.active_mbec_enabled);
+        Self::ENABLED_VTL_SET.put(word, self.enabled_vtl_set)
     }
 
     pub fn unpack(word: u64) -> Self
-        ensures { λ r. ⌜ r ≡ unpackAs vpStatus word ⌝ }
+        ensures { λ result. ⌜ result ≡ unpackAs vpStatus word ⌝ }
     {
         Self {
-            active_vtl: take(word, 0, 4),
-            active_mbec_enabled: take(word, 4, 1),
-            enabled_vtl_set: take(word, 16, 16),
+            active_vtl: Self::ACTIVE_VTL.take(word),
+            active_mbec_enabled: Self::ACTIVE_MBEC_ENABLED.take(word),
+            enabled_vtl_set: Self::ENABLED_VTL_SET.take(word),
         }
     }
 }
@@ -98,25 +118,35 @@ pub struct PartitionConfig {
 }
 
 impl PartitionConfig {
+    pub const ENABLE_VTL_PROTECTION: FieldPosition = FieldPosition(0, 1);
+
+    pub const DEFAULT_VTL_PROTECTION_MASK: FieldPosition = FieldPosition(1, 4);
+
+    pub const ZERO_MEMORY_ON_RESET: FieldPosition = FieldPosition(5, 1);
+
+    pub const DENY_LOWER_VTL_STARTUP: FieldPosition = FieldPosition(6, 1);
+
+    pub const INTERCEPT_VP_STARTUP: FieldPosition = FieldPosition(9, 1);
+
     pub fn pack(self) -> u64
-        ensures { λ r. ⌜ r ≡ packAs partitionConfig self ⌝ }
+        ensures { λ result. ⌜ result ≡ packAs partitionConfig self ⌝ }
     {
-        let word = put(0, 0, 1, self.enable_vtl_protection);
-        let word = put(word, 1, 4, self.default_vtl_protection_mask);
-        let word = put(word, 5, 1, self.zero_memory_on_reset);
-        let word = put(word, 6, 1, self.deny_lower_vtl_startup);
-        put(word, 9, 1, self.intercept_vp_startup)
+        let word = Self::ENABLE_VTL_PROTECTION.put(0, self.enable_vtl_protection);
+        let word = Self::DEFAULT_VTL_PROTECTION_MASK.put(word, self.default_vtl_protection_mask);
+        let word = Self::ZERO_MEMORY_ON_RESET.put(word, self.zero_memory_on_reset);
+        let word = Self::DENY_LOWER_VTL_STARTUP.put(word, self.deny_lower_vtl_startup);
+        Self::INTERCEPT_VP_STARTUP.put(word, self.intercept_vp_startup)
     }
 
     pub fn unpack(word: u64) -> Self
-        ensures { λ r. ⌜ r ≡ unpackAs partitionConfig word ⌝ }
+        ensures { λ result. ⌜ result ≡ unpackAs partitionConfig word ⌝ }
     {
         Self {
-            enable_vtl_protection: take(word, 0, 1),
-            default_vtl_protection_mask: take(word, 1, 4),
-            zero_memory_on_reset: take(word, 5, 1),
-            deny_lower_vtl_startup: take(word, 6, 1),
-            intercept_vp_startup: take(word, 9, 1),
+            enable_vtl_protection: Self::ENABLE_VTL_PROTECTION.take(word),
+            default_vtl_protection_mask: Self::DEFAULT_VTL_PROTECTION_MASK.take(word),
+            zero_memory_on_reset: Self::ZERO_MEMORY_ON_RESET.take(word),
+            deny_lower_vtl_startup: Self::DENY_LOWER_VTL_STARTUP.take(word),
+            intercept_vp_startup: Self::INTERCEPT_VP_STARTUP.take(word),
         }
     }
 }
@@ -128,19 +158,23 @@ pub struct SecureConfig {
 }
 
 impl SecureConfig {
+    pub const MBEC_ENABLED: FieldPosition = FieldPosition(0, 1);
+
+    pub const TLB_LOCKED: FieldPosition = FieldPosition(1, 1);
+
     pub fn pack(self) -> u64
-        ensures { λ r. ⌜ r ≡ packAs secureConfig self ⌝ }
+        ensures { λ result. ⌜ result ≡ packAs secureConfig self ⌝ }
     {
-        let word = put(0, 0, 1, self.mbec_enabled);
-        put(word, 1, 1, self.tlb_locked)
+        let word = Self::MBEC_ENABLED.put(0, self.mbec_enabled);
+        Self::TLB_LOCKED.put(word, self.tlb_locked)
     }
 
     pub fn unpack(word: u64) -> Self
-        ensures { λ r. ⌜ r ≡ unpackAs secureConfig word ⌝ }
+        ensures { λ result. ⌜ result ≡ unpackAs secureConfig word ⌝ }
     {
         Self {
-            mbec_enabled: take(word, 0, 1),
-            tlb_locked: take(word, 1, 1),
+            mbec_enabled: Self::MBEC_ENABLED.take(word),
+            tlb_locked: Self::TLB_LOCKED.take(word),
         }
     }
 }
@@ -152,19 +186,86 @@ pub struct CodePageOffsets {
 }
 
 impl CodePageOffsets {
+    pub const VTL_CALL_OFFSET: FieldPosition = FieldPosition(0, 12);
+
+    pub const VTL_RETURN_OFFSET: FieldPosition = FieldPosition(12, 12);
+
     pub fn pack(self) -> u64
-        ensures { λ r. ⌜ r ≡ packAs codePageOffsets self ⌝ }
+        ensures { λ result. ⌜ result ≡ packAs codePageOffsets self ⌝ }
     {
-        let word = put(0, 0, 12, self.vtl_call_offset);
-        put(word, 12, 12, self.vtl_return_offset)
+        let word = Self::VTL_CALL_OFFSET.put(0, self.vtl_call_offset);
+        Self::VTL_RETURN_OFFSET.put(word, self.vtl_return_offset)
     }
 
     pub fn unpack(word: u64) -> Self
-        ensures { λ r. ⌜ r ≡ unpackAs codePageOffsets word ⌝ }
+        ensures { λ result. ⌜ result ≡ unpackAs codePageOffsets word ⌝ }
     {
         Self {
-            vtl_call_offset: take(word, 0, 12),
-            vtl_return_offset: take(word, 12, 12),
+            vtl_call_offset: Self::VTL_CALL_OFFSET.take(word),
+            vtl_return_offset: Self::VTL_RETURN_OFFSET.take(word),
         }
     }
+}
+
+// The table: a row for each used field. One computed comparison with the layouts of specs/RegisterLayouts.antt, in the proof of
+// `position_of`, tests all rows, and `row-at` of proofs/RegisterFieldLaws.antt carries it to each.
+// A new register (001's intercept control word of 25 bits, its VINA word) is its layout in specs/RegisterLayouts.antt, its struct
+// above, and its rows here with the row after them. No law and no proof of the functions below changes.
+const POSITIONS: [FieldPosition; 18] = [
+    Capabilities::DENY_LOWER_VTL_STARTUP,
+    Capabilities::MBEC_VTL_MASK,
+    Capabilities::DR6_SHARED,
+    PartitionStatus::ENABLED_VTL_SET,
+    PartitionStatus::MAXIMUM_VTL,
+    PartitionStatus::MBEC_ENABLED_VTL_SET,
+    VpStatus::ACTIVE_VTL,
+    VpStatus::ACTIVE_MBEC_ENABLED,
+    VpStatus::ENABLED_VTL_SET,
+    PartitionConfig::ENABLE_VTL_PROTECTION,
+    PartitionConfig::DEFAULT_VTL_PROTECTION_MASK,
+    PartitionConfig::ZERO_MEMORY_ON_RESET,
+    PartitionConfig::DENY_LOWER_VTL_STARTUP,
+    PartitionConfig::INTERCEPT_VP_STARTUP,
+    SecureConfig::MBEC_ENABLED,
+    SecureConfig::TLB_LOCKED,
+    CodePageOffsets::VTL_CALL_OFFSET,
+    CodePageOffsets::VTL_RETURN_OFFSET,
+];
+
+// The row at which each register begins, and the row after the last.
+const FIRST_ROWS: [u64; 7] = [0, 3, 6, 9, 14, 16, 18];
+
+const REGISTERS: u64 = 6;
+
+// A field that is not there has no bits.
+const NOWHERE: FieldPosition = FieldPosition(0, 0);
+
+// Where a field of a register stands. Registers and their used fields are numbered from 0 in the order of 001.
+pub fn position_of(register: u64, field: u64) -> FieldPosition
+    ensures { λ result. ⌜ result ≡ positionOf register field ⌝ }
+{
+    if register >= REGISTERS {
+        return NOWHERE;
+    }
+    let number = register as usize;
+    let first = FIRST_ROWS[number];
+    if field >= FIRST_ROWS[number + 1] - first {
+        return NOWHERE;
+    }
+    POSITIONS[(first + field) as usize]
+}
+
+// The value of a field of a register's word. Any other number of a register or a field gives 0.
+pub fn field_of(register: u64, field: u64, word: u64) -> u64
+    ensures { λ result. ⌜ result ≡ fieldOf register field word ⌝ }
+{
+    position_of(register, field).take(word)
+}
+
+// The word with that field replaced by the low bits of `value`; the other bits stay. Any other number of a register or a field gives
+// the word as it is.
+pub fn with_field(register: u64, field: u64, word: u64, value: u64) -> u64
+    ensures { λ result. ⌜ result ≡ withField register field word value ⌝ }
+{
+    position_of(register, field).put(word, value)
 }

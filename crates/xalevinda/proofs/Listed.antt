@@ -1,22 +1,17 @@
 -- Laws of a script that is fed to a session piece by piece: `Listed` is what the loop over its pieces keeps. Assumes nothing.
-use mathlib.Core.Bool.{Bool, true, false, cond}
 use mathlib.Core.List.{List, [], _∷_, _++_, append-assoc, append-nil}
 use mathlib.Core.Path.{_≡_, sym, ap, _∙_}
 use Prim.Native.Nat.{ℕ, _+_, _-_, _^_, _≤_, _<_}
-use borrow.Author.Tests.{le-ltb}
 use native.Mathlib.Omega.{arith}
-use lib.Dec.{eqb}
 use lib.ListN.{drop, length, length-drop, take}
 use lib.Seq.{sets, take-add, take-all}
 use Rattle.decimal.specs.Write.{withText}
 use Rattle.listing.specs.Listing.{listing}
-use Rattle.script.specs.Records.{inFront, linesIn}
-use Rattle.script.specs.Listing.{lineFeed}
-use Rattle.session.proofs.Whole.{whole}
+use Rattle.session.proofs.WholeListing.{whole}
 use Rattle.session.specs.Calls.{Call, calls}
-use Rattle.session.specs.Session.{Bounds, Progress, fed, fedLines, first, lastText, later, roomFor, stopped}
+use Rattle.session.specs.Session.{Bounds, Progress, fed, first, lastText}
 use Rattle.xalevinda.specs.Exports.{atMostWord}
-use Rattle.xalevinda.specs.Parts.{Stored}
+use Rattle.xalevinda.specs.StoredListing.{Stored}
 use Rattle.xalevinda.proofs.Storing.{front, stored-more, stored-none}
 
 -- A session that has used an input has written a text: whatever it is fed next, what it writes then completes the listing of all.
@@ -38,28 +33,6 @@ reached-fed script at p text room w more =
 reached-end : (script : List ℕ) (p : Progress) (text : List ℕ) → Reached script p text → text ++ lastText p ≡ listing script
 unfolding calls
 reached-end script p text w = w [] ∙ ap listing (append-nil script)
-
--- Some of a piece is used wherever the longest record has room.
-room-at-most : (p : Progress) → roomFor p ≤ 84
-room-at-most (first line) = omega arith
-room-at-most (later number s line) = omega arith
-room-at-most stopped = omega arith
-
-line-used : (p : Progress) (line : List ℕ) (more : List (List ℕ)) (rest : List ℕ) (room : ℕ) → 84 ≤ room
-    → 0 < fedLines p (line ∷ more) rest room .used
-unfolding fedLines
-line-used p line more rest room h = rw (le-ltb room (roomFor p) (omega (arith, room-at-most p))) (omega arith)
-
-pub some-used : (p : Progress) (chunk : List ℕ) (room : ℕ) → 84 ≤ room → 0 < length chunk → 0 < fed p chunk room .used
-unfolding fed linesIn fedLines
-some-used p [] room h l = absurd (omega arith)
-some-used p (byte ∷ bytes) room h l = go (eqb byte lineFeed) (linesIn bytes .complete) (linesIn bytes .rest)
-  where
-    go : (t : Bool) (complete : List (List ℕ)) (rest : List ℕ)
-        → let ls = cond t (record { complete = [] ∷ complete; rest = rest }) (inFront byte complete rest) in 0 < fedLines p (ls .complete) (ls .rest) room .used
-    go true complete rest = line-used p [] complete rest room h
-    go false [] rest = omega arith
-    go false (line ∷ more) rest = line-used p (byte ∷ line) more rest room h
 
 -- So much of a script was used, and what was written of its listing stands in the buffer.
 pub record Listed (script before : List ℕ) (p : Progress) (at size : ℕ) (out : List ℕ) : Type 0 where

@@ -8,11 +8,11 @@ use borrow.Rule.Slice.PartMut.{midOf, putMid}
 use native.Mathlib.Omega.{arith}
 use lib.ListN.{drop, length, length-append, length-drop, take}
 use lib.Seq.{drop-drop, drop-length, length-sets, sets, sets-eq, take-all, take-at, take-length}
-use Rattle.decimal.proofs.Room.{with-no-room, with-room}
+use Rattle.decimal.proofs.TextRoom.{with-no-room, with-room}
 use Rattle.decimal.specs.Write.{hasRoom, withText}
-use Rattle.script.proofs.Stores.{sets-append}
+use Rattle.script.proofs.StoredTexts.{sets-append}
 use Rattle.xalevinda.specs.Exports.{atMostWord, sizeOf}
-use Rattle.xalevinda.specs.Parts.{Stored}
+use Rattle.xalevinda.specs.StoredListing.{Stored}
 
 -- What stands from a place on, as the code takes it.
 pub part-whole : (l : List ℕ) (at : ℕ) → midOf at (length l - at) l ≡ drop at l

@@ -1,3 +1,3 @@
 -- The definitions of the library for other programs. Assumes nothing.
 pub mod Exports  -- what the exported functions answer
-pub mod Parts  -- what the code's parts give
+pub mod StoredListing  -- what the code's parts give

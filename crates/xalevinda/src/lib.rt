@@ -3,22 +3,21 @@
 ghost use mathlib.Core.Path.{_≡_};
 ghost use Rattle.decimal.specs.Write.{withText};
 ghost use Rattle.listing.specs.Listing.{listing};
-ghost use Rattle.xalevinda.specs.Exports.{fieldOf, sizeOf, withField};
-use word::field::put;
-use word::field::take;
+ghost use Rattle.word.specs.RegisterFields.{fieldOf, withField};
+ghost use Rattle.xalevinda.specs.Exports.{sizeOf};
+use session::LONGEST_RECORD;
 
-mod places; // where the fields of a register stand
 mod written; // a listing written into a buffer
 
 // The listing of a whole script (01, "Script and listing"), written at the start of `out`: all of it, or nothing where it has no room.
 // Returns how many bytes the listing has, or the largest number where it has more. The script is run once to count them, and once more
-// to write them. Where `out` has 84 bytes, the most of a record, for every line feed and for one line more, it is run once only.
+// to write them. Where `out` has room for a longest record for every line feed and for one line more, it is run once only.
 #[no_mangle]
 pub extern "C" fn xalevinda_listing(script: &[u8], out: &mut [u8]) -> usize
     ensures size { λ r. ⌜ r ≡ sizeOf (listing (now (script .entry))) ⌝ }
     ensures out { λ _. ⌜ now (out .exit) ≡ withText (now (out .entry)) 0 (listing (now (script .entry))) ⌝ }
 {
-    if written::line_feeds(script) < out.len() / 84 {
+    if written::line_feeds(script) < out.len() / LONGEST_RECORD {
         return written::write(script, out);
     }
     let mut nothing = [0u8; 0];
@@ -33,18 +32,16 @@ pub extern "C" fn xalevinda_listing(script: &[u8], out: &mut [u8]) -> usize
 // of a register or a field gives 0.
 #[no_mangle]
 pub extern "C" fn xalevinda_field(register: u64, field: u64, word: u64) -> u64
-    ensures { λ r. ⌜ r ≡ fieldOf register field word ⌝ }
+    ensures { λ result. ⌜ result ≡ fieldOf register field word ⌝ }
 {
-    let p = places::place_of(register, field);
-    take(word, p.offset, p.width)
+    word::registers::field_of(register, field, word)
 }
 
 // The word with that field replaced by the low bits of `value`; the other bits stay. Any other number of a register or a field gives
 // the word as it is.
 #[no_mangle]
 pub extern "C" fn xalevinda_with_field(register: u64, field: u64, word: u64, value: u64) -> u64
-    ensures { λ r. ⌜ r ≡ withField register field word value ⌝ }
+    ensures { λ result. ⌜ result ≡ withField register field word value ⌝ }
 {
-    let p = places::place_of(register, field);
-    put(word, p.offset, p.width, value)
+    word::registers::with_field(register, field, word, value)
 }

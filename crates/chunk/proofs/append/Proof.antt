@@ -3,7 +3,7 @@
 use Prim.Native.Nat.{_-_}
 use borrow.Author.Needs.{needs}
 use lib.ListN.{length}
-use Rattle.chunk.proofs.Lines.{Appending, append-all, append-byte, append-full, append-start}
+use Rattle.chunk.proofs.ChunkLines.{Appending, append-all, append-byte, append-full, append-start}
 use Rattle.chunk.proofs.append.Statement.{statement}
 use Rattle.chunk.proofs.append.Tie as tie
 

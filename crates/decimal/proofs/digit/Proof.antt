@@ -2,7 +2,7 @@
 -- Assumes nothing.
 use borrow.Author.Tests.{leb-true}
 use lib.Dec.{leb}
-use Rattle.decimal.proofs.Reading.{both}
+use Rattle.decimal.proofs.DigitReading.{both}
 use Rattle.decimal.proofs.digit.Statement.{statement}
 use Rattle.decimal.proofs.digit.Tie as tie
 

@@ -3,7 +3,7 @@
 use mathlib.Core.Path.{sym, _∙_}
 use borrow.Author.Needs.{needs}
 use native.Mathlib.Omega.{arith}
-use Rattle.decimal.proofs.Reading.{digit-byte, extended-in, extended-out, extended-zero}
+use Rattle.decimal.proofs.DigitReading.{digit-byte, extended-in, extended-out, extended-zero}
 use Rattle.decimal.proofs.extend.Statement.{statement}
 use Rattle.decimal.proofs.extend.Tie as tie
 

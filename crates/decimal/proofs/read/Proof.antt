@@ -6,7 +6,7 @@ use borrow.Author.Needs.{needs}
 use native.Mathlib.Omega.{arith}
 use lib.ListN.{drop, length}
 use Rattle.decimal.specs.Read.{readDecimal, readFrom}
-use Rattle.decimal.proofs.Reading.{read-end, read-first, read-next, read-none}
+use Rattle.decimal.proofs.DigitReading.{read-end, read-first, read-next, read-none}
 use Rattle.decimal.proofs.read.Statement.{statement}
 use Rattle.decimal.proofs.read.Tie as tie
 

@@ -4,7 +4,7 @@ use mathlib.Core.Path.{sym}
 use borrow.Author.Needs.{needs}
 use native.Mathlib.Omega.{arith}
 use Rattle.decimal.proofs.Digits.{only-digit}
-use Rattle.decimal.proofs.Room.{after-no-room, after-room, with-no-room, with-room}
+use Rattle.decimal.proofs.TextRoom.{after-no-room, after-room, with-no-room, with-room}
 use Rattle.decimal.proofs.write.Statement.{statement}
 use Rattle.decimal.proofs.write.Tie as tie
 

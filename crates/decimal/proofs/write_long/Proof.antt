@@ -6,7 +6,7 @@ use borrow.Author.Needs.{needs}
 use native.Mathlib.Omega.{arith}
 use lib.ListN.{length-set}
 use Rattle.decimal.specs.Write.{decimal}
-use Rattle.decimal.proofs.Room.{after-no-room, after-room, with-no-room, with-room}
+use Rattle.decimal.proofs.TextRoom.{after-no-room, after-room, with-no-room, with-room}
 use Rattle.decimal.proofs.Writing.{Writing, above-tens, digit-put, place-left, text-put}
 use Rattle.decimal.proofs.write_long.Statement.{statement}
 use Rattle.decimal.proofs.write_long.Tie as tie

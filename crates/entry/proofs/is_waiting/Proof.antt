@@ -4,10 +4,10 @@ use Rattle.entry.proofs.is_waiting.Statement.{statement}
 use Rattle.entry.proofs.is_waiting.Tie as tie
 
 returns : tie.Need-returns
-returns c = rw (c .highest-ready .ensures, ← c .before .before .enabled-at .ensures, c .before .if1 .taken)
+returns c = rw (c .highest-ready .ensures, ← c .before .before .is-above .ensures, c .before .if1 .taken)
 
 returns-2 : tie.Need-returns-2
-returns-2 c = rw (← c .before .enabled-at .ensures, c .if1 .left)
+returns-2 c = rw (← c .before .is-above .ensures, c .if1 .left)
 
 pub is-waiting-spec : {M : Type 1} → statement M
 is-waiting-spec = tie.close (tie.spec (λ c κs. search needs) (λ c κs. search needs) returns returns-2)

@@ -4,7 +4,7 @@ use Rattle.listing.proofs.processor_of.Statement.{statement}
 use Rattle.listing.proofs.processor_of.Tie as tie
 
 returns : tie.Need-returns
-returns c = rw (c .before .e .given .1)
+returns c = rw (c .before .event .given .1)
 
 pub processor-of-spec : {M : Type 1} → statement M
 processor-of-spec =

@@ -5,12 +5,12 @@ use borrow.Author.Needs.{needs}
 use borrow.Author.Tests.{not-false, not-true}
 use native.Mathlib.Omega.{arith}
 use lib.ListN.{length}
-use Rattle.script.specs.Events.{events, lineEvent}
-use Rattle.script.specs.Lines.{numbersIn}
-use Rattle.script.specs.Rows.{Row, fieldsAfter}
-use Rattle.script.specs.Words.{formOf, words}
+use Rattle.script.specs.EventForms.{events, lineEvent}
+use Rattle.script.specs.LineForms.{inForm}
+use Rattle.script.specs.NumberRows.{Row, fieldsAfter}
+use Rattle.script.specs.EventWords.{formOf, words}
 use Rattle.script.specs.declared.Parsed.the-variants.{Event, Malformed}
-use Rattle.script.proofs.Naming.{Found, formSaid, found, line-said, named-said, namedSaid, too-long}
+use Rattle.script.proofs.Naming.{Found, found, line-said, named-said, namedSaid, too-long}
 use Rattle.script.proofs.Saying.{row-malformed, row-said}
 use Rattle.script.proofs.parse.Statement.{statement}
 use Rattle.script.proofs.parse.Tie as tie
@@ -41,15 +41,15 @@ word-found c = let w = c .before .before in found words _ refl (sym (w .word-of 
 numbers-requires : tie.Need-numbers-requires
 numbers-requires c κs =
     let f = word-found (c .before .before) in
-    (omega (arith, f .ends, f .longer), (omega (arith, f .counts, f .few), refl))
+    (omega (arith, f .ends, f .within), (omega (arith, f .counts, f .few), refl))
 
 -- What the line says, by that word, and the row that its numbers were read into.
 said : (c : tie.After-numbers)
     → let known = c .before .before .before in
     let line = known .before .before .before .before .before .args .line .now in
     let form = formOf (known .word .given .0 .0) in
-    let numbers = numbersIn (fieldsAfter line (length (form .word))) in
-    Row (form .count) numbers (c .numbers .result) (c .numbers .last .1 .1 .1 .0) × (formSaid Event Malformed form numbers ≡ lineEvent line)
+    let more = fieldsAfter line (length (form .word)) in
+    Row (form .count) more (c .numbers .result) (c .numbers .last .1 .1 .1 .0) × (inForm Event Malformed form more ≡ lineEvent line)
 said c =
     let known = c .before .before .before in
     let line = known .before .before .before .before .before .args .line .now in
@@ -60,10 +60,12 @@ said c =
 
 returns-3 : tie.Need-returns-3
 returns-3 c =
-    let row = c .before in
+    let row = c .before .before in
     let known = row .before .before .before in
     let (read, says) = said row in
-    row-malformed Event Malformed (formOf (known .word .given .0 .0)) (word-found known .few) (numbersIn _) read (not-true _ (c .if2 .taken)) ∙ says
+    let f = word-found known in
+    ap Malformed (c .refusal .ensures ∙ rw (f .ends, f .counts))
+    ∙ row-malformed Event Malformed (formOf (known .word .given .0 .0)) (f .few) _ read (not-true _ (c .before .if2 .taken)) ∙ says
 
 returns-4 : tie.Need-returns-4
 returns-4 c =
@@ -71,11 +73,11 @@ returns-4 c =
     let known = row .before .before .before in
     let (read, says) = said row in
     ap Event (c .event .ensures)
-    ∙ row-said Event Malformed (formOf (known .word .given .0 .0)) (word-found known .few) (numbersIn _) read (not-false _ (c .before .before .if2 .left)) ∙ says
+    ∙ row-said Event Malformed (formOf (known .word .given .0 .0)) (word-found known .few) _ read (not-false _ (c .before .before .if2 .left)) ∙ says
 
 pub parse-spec : {M : Type 1} → statement M
 parse-spec =
     tie.close
     (tie.spec
-    returns (λ c κs. search needs) (λ c. search needs) (λ c. search needs) returns-2 numbers-requires returns-3
+    returns (λ c κs. search needs) (λ c. search needs) (λ c. search needs) returns-2 numbers-requires (λ c κs. search needs) returns-3
     (λ c κs. search needs) returns-4)

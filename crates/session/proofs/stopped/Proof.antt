@@ -8,7 +8,7 @@ use Rattle.session.proofs.stopped.Tie as tie
 
 returns : tie.Need-returns
 returns c =
-    let s = c .before .args .s in
+    let s = c .before .args .session in
     c .has-stopped .ensures ∙ phase-stopped (s .phase) (s .number) (stateIn s) (held (s .line) (s .length))
 
 pub stopped-spec : {M : Type 1} → statement M

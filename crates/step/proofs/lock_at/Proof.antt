@@ -39,7 +39,7 @@ known true z p l = refl
 known false z p l = empty z l
 
 returns : tie.Need-returns
-returns c = let a = c .before .args in rw (c .holds-lock .ensures) (known (a .there) (a .z) (vpOf (a .p .now)) (a .l))
+returns c = let a = c .before .args in rw (c .holds-lock .ensures) (known (a .there) (a .shape) (vpOf (a .vp .now)) (a .level .0))
 
 pub lock-at-spec : {M : Type 1} → statement M
 lock-at-spec = tie.close (tie.spec (λ c κs. tt) returns)

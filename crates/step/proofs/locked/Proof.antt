@@ -5,7 +5,7 @@ use lib.Dec.{ltb}
 use Rattle.model.specs.Bounded.{any}
 use Rattle.model.specs.Events.{locked}
 use Rattle.model.specs.State.{processors, shape, vp, isProcessor}
-use Rattle.state.specs.Parts.{machineOf}
+use Rattle.state.specs.Lent.{machineOf}
 use borrow.Author.Needs.{needs}
 use Rattle.step.proofs.locked.Statement.{statement}
 use Rattle.step.proofs.locked.Tie as tie

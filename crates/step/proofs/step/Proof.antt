@@ -1,5 +1,5 @@
 -- `step` meets its contract: a well-formed state has at most four processors (`step-as-if`). Assumes nothing.
-use Rattle.step.proofs.Whole.{step-as-if}
+use Rattle.step.proofs.KnownFormed.{step-as-if}
 use mathlib.Core.Path.{_∙_}
 use borrow.Author.Needs.{needs}
 use Rattle.step.proofs.step.Statement.{statement}

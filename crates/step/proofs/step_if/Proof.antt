@@ -1,7 +1,7 @@
 -- `step_if` meets its contract: both tests of the definition. Assumes nothing.
 use Rattle.model.specs.State.{processors}
 use Rattle.model.specs.Step.{nextFor}
-use Rattle.state.specs.Parts.{machineOf}
+use Rattle.state.specs.Lent.{machineOf}
 use Rattle.step.specs.Stepped.{stepIf}
 use borrow.Author.Tests.{le-leb, lt-leb}
 use borrow.Author.Needs.{needs}

@@ -4,7 +4,7 @@ use mathlib.Core.Path.{refl}
 use Prim.Native.Nat.{_^_, _<_}
 use native.Mathlib.Omega.{arith}
 use lib.ListN.{length}
-use Rattle.xalevinda.proofs.Room.{fits-at-once}
+use Rattle.xalevinda.proofs.ListingRoom.{fits-at-once}
 use Rattle.xalevinda.proofs.Storing.{stored-nothing, stored-whole}
 use Rattle.xalevinda.proofs.xalevinda_listing.Statement.{statement}
 use Rattle.xalevinda.proofs.xalevinda_listing.Tie as tie

@@ -1,5 +1,5 @@
 -- `host_denies` meets its contract: the host's mask lacks the needed bit. Assumes nothing.
-use Rattle.partition.specs.Parts.{hostDeniesBy}
+use Rattle.model.specs.Memory.{hostDeniesBy}
 use Rattle.partition.proofs.access.host_denies.Statement.{statement}
 use Rattle.partition.proofs.access.host_denies.Tie as tie
 

@@ -14,12 +14,12 @@ returns-2 c = rw (c .enum-told2 .given .1)
 
 returns-3 : tie.Need-returns-3
 unfolding needed
-returns-3 c = rw (c .before .enum-told3 .given .1, c .if1 .taken)
+returns-3 c = rw (c .before .enum-told3 .given .1, ← c .before .before .before .is-user .ensures, c .if1 .taken)
 
 returns-4 : tie.Need-returns-4
 unfolding needed
-returns-4 c = rw (c .before .enum-told3 .given .1, c .if1 .left)
+returns-4 c = rw (c .before .enum-told3 .given .1, ← c .before .before .before .is-user .ensures, c .if1 .left)
 
 pub needed-spec : {M : Type 1} → statement M
 needed-spec =
-    tie.close (tie.spec (λ c. search needs) (λ c. search needs) (λ c. search needs) returns returns-2 returns-3 returns-4)
+    tie.close (tie.spec (λ c κs. search needs) (λ c. search needs) (λ c. search needs) (λ c. search needs) returns returns-2 returns-3 returns-4)

@@ -4,17 +4,18 @@ use mathlib.Core.Path.{_≡_, ap, _∙_}
 use Prim.Native.Nat.{_-_, _≤_}
 use native.Mathlib.Omega.{arith}
 use Rattle.model.specs.Bounded.{every}
-use Rattle.partition.specs.Parts.{maskIn, maskPasses}
+use Rattle.partition.specs.Denying.{maskPasses}
+use Rattle.model.specs.State.{maskIn}
 use Rattle.partition.proofs.Counted.{every-none, every-more, every-done}
 use Rattle.partition.proofs.formed.masks_pass.Statement.{statement}
 use Rattle.partition.proofs.formed.masks_pass.Tie as tie
 
 abbrev Inv-loop : tie.InvT-loop
-Inv-loop z pages masks l strict pass₀ page₀ pass page =
-    (page ≤ 64) × (pass ≡ every page (λ p. maskPasses strict (maskIn z pages masks (l .0) p)))
+Inv-loop shape pages masks level strict pass₀ index₀ pass index =
+    (index ≤ 64) × (pass ≡ every index (λ p. maskPasses strict (maskIn shape pages masks (level .0) p)))
 
 abbrev μ-loop : tie.MeasureT-loop
-μ-loop z pages masks l strict pass₀ page₀ pass page = 64 - page
+μ-loop shape pages masks level strict pass₀ index₀ pass index = 64 - index
 
 loop-holds : tie.Need-loop-holds Inv-loop μ-loop
 loop-holds c = (omega arith, every-none _)

@@ -1,17 +1,16 @@
--- `level::config_at` meets its contract: 0 for level 0, the record's word for any other. Assumes nothing.
-use borrow.Author.Tests.{eq-eqb, ne-eqb}
-use Rattle.partition.specs.Parts.{configIn}
+-- `level::config_at` meets its contract: the word of a level above 0 that there is, or 0. Assumes nothing.
+use mathlib.Core.Bool.{true, false}
 use borrow.Author.Needs.{needs}
+use denote.Ref.{now}
+use Rattle.partition.proofs.PartitionWords.{config-in, config-none}
 use Rattle.partition.proofs.level.config_at.Statement.{statement}
 use Rattle.partition.proofs.level.config_at.Tie as tie
 
-returns : tie.Need-returns
-unfolding configIn
-returns c = rw (eq-eqb _ 0 (c .if1 .taken))
-
-returns-2 : tie.Need-returns-2
-unfolding configIn
-returns-2 c = rw (ne-eqb _ 0 (c .if1 .left), c .before .level-at .ensures)
-
 pub config-at-spec : {M : Type 1} → statement M
-config-at-spec = tie.close (tie.spec (λ c κs. search needs) returns returns-2)
+config-at-spec =
+    tie.close
+    (tie.spec
+    (λ c. config-none _ (now (c .before .before .args .levels)) _ (c .if1 .taken))
+    (λ c. search needs) (λ c. search needs) (λ c. search needs)
+    (λ c. config-in _ (now (c .before .before .before .before .args .levels)) _ (c .before .before .if1 .left) true (c .if2 .taken))
+    (λ c. config-in _ (now (c .before .before .before .before .args .levels)) _ (c .before .before .if1 .left) false (c .if2 .left)))

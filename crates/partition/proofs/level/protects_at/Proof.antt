@@ -1,5 +1,5 @@
 -- `level::protects_at` meets its contract: the level's word turns protections on. Assumes nothing.
-use Rattle.partition.specs.Parts.{protectsIn}
+use Rattle.model.specs.Masks.{protectsIn}
 use borrow.Author.Needs.{needs}
 use Rattle.partition.proofs.level.protects_at.Statement.{statement}
 use Rattle.partition.proofs.level.protects_at.Tie as tie

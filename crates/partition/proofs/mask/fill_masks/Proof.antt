@@ -9,10 +9,10 @@ use Rattle.partition.proofs.mask.fill_masks.Statement.{statement}
 use Rattle.partition.proofs.mask.fill_masks.Tie as tie
 
 abbrev Inv-loop : tie.InvT-loop
-Inv-loop masks₀ pages l mask page₀ masks page = (page ≤ 64) × (masks ≡ filled page pages (l .0) mask masks₀)
+Inv-loop masks₀ pages level mask index₀ masks index = (index ≤ 64) × (masks ≡ filled index pages (level .0) mask masks₀)
 
 abbrev μ-loop : tie.MeasureT-loop
-μ-loop masks₀ pages l mask page₀ masks page = 64 - page
+μ-loop masks₀ pages level mask index₀ masks index = 64 - index
 
 loop-holds : tie.Need-loop-holds Inv-loop μ-loop
 loop-holds c = (omega arith, filled-none _ _ _ _)

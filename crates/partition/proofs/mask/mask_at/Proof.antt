@@ -1,7 +1,7 @@
 -- `mask_at` meets its contract: page and level are within the array, or there is no mask. Assumes nothing.
 use mathlib.Core.Bool.{true, false}
 use borrow.Author.Needs.{needs}
-use Rattle.partition.proofs.Readings.{mask-page-past, mask-level-past, mask-in}
+use Rattle.partition.proofs.MaskPlaces.{mask-page-past, mask-level-past, mask-in}
 use Rattle.partition.proofs.mask.mask_at.Statement.{statement}
 use Rattle.partition.proofs.mask.mask_at.Tie as tie
 

@@ -1,7 +1,7 @@
 -- `set_mask` meets its contract: a store within the array, or none where the index lies past it. Assumes nothing.
 use borrow.Author.Needs.{needs}
 use native.Mathlib.Omega.{arith}
-use Rattle.partition.proofs.Readings.{stored-in, stored-past}
+use Rattle.partition.proofs.MaskPlaces.{stored-in, stored-past}
 use Rattle.partition.proofs.mask.set_mask.Statement.{statement}
 use Rattle.partition.proofs.mask.set_mask.Tie as tie
 

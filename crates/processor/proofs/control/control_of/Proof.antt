@@ -1,5 +1,5 @@
 -- `control::control_of` meets its contract, word by word. Assumes nothing.
-use Rattle.processor.proofs.Stores.{control-read}
+use Rattle.processor.proofs.RecordStores.{control-read}
 use borrow.Author.Needs.{needs}
 use Rattle.processor.proofs.control.control_of.Statement.{statement}
 use Rattle.processor.proofs.control.control_of.Tie as tie

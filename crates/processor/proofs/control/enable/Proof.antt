@@ -1,7 +1,6 @@
--- `control::enable` meets its contract: one bit ends by bit 64 (`put-whole`). Assumes nothing.
-use Rattle.word.proofs.FieldLaws.{put-whole}
-use lib.ListN.{getD}
-use mathlib.Core.Path.{_∙_}
+-- `control::enable` meets its contract: the bit of the level. Assumes nothing.
+use Prim.Native.Nat.{_%_}
+use mathlib.Core.Path.{_≡_}
 use native.Mathlib.Omega.{arith}
 use borrow.Author.Needs.{needs}
 use Rattle.processor.proofs.control.enable.Statement.{statement}
@@ -9,8 +8,9 @@ use Rattle.processor.proofs.control.enable.Tie as tie
 
 returns : tie.Need-returns
 returns c =
-    let a = c .before .before .before .args in
-    (rw (c .put .ensures ∙ put-whole (a .l) 1 (getD (a .p .now) 1 0) 1 (c .before .slice-known .given 1 .fits) (omega (arith, c .before .before .before .pre))), search needs)
+    let start = c .before .before .before in
+    let low : start .args .level .0 % 64 ≡ start .args .level .0 = omega (arith, start .pre) in
+    (rw (c .with-bit .ensures, low), search needs)
 
 pub enable-spec : {M : Type 1} → statement M
-enable-spec = tie.close (tie.spec (λ c. search needs) (λ c. search needs) (λ c κs. search needs) (λ c. search needs) returns)
+enable-spec = tie.close (tie.spec (λ c. search needs) (λ c κs. search needs) (λ c. search needs) returns)

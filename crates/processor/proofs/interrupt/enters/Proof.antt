@@ -6,7 +6,7 @@ use Rattle.processor.proofs.interrupt.enters.Tie as tie
 
 returns : tie.Need-returns
 unfolding enters
-returns c = rw (c .active-of .ensures, c .before .is-ready .ensures)
+returns c = rw (c .before .before .active-of .ensures, c .before .before .before .is-ready .ensures)
 
 pub enters-spec : {M : Type 1} → statement M
 enters-spec = tie.close (tie.spec (λ c κs. search needs) (λ c κs. search needs) returns)

@@ -1,5 +1,5 @@
 -- `interrupt::highest_ready` meets its contract: the search goes by the words of the level. Assumes nothing.
-use Rattle.processor.proofs.Vectors.{vectors-read}
+use Rattle.processor.proofs.ReadyVectors.{vectors-read}
 use borrow.Author.Needs.{needs}
 use Rattle.processor.proofs.interrupt.highest_ready.Statement.{statement}
 use Rattle.processor.proofs.interrupt.highest_ready.Tie as tie
@@ -20,5 +20,5 @@ pub highest-ready-spec : {M : Type 1} → statement M
 highest-ready-spec =
     tie.close
     (tie.spec
-    (λ c κs. search needs) (λ c κs. search needs) (λ c κs. search needs) (λ c κs. search needs) (λ c κs. search needs)
-    (λ c κs. search needs) returns)
+    (λ c κs. search needs) (λ c κs. search needs) (λ c. search needs) (λ c κs. search needs) (λ c. search needs) (λ c κs. search needs)
+    (λ c. search needs) (λ c κs. search needs) (λ c κs. search needs) returns)

@@ -1,6 +1,6 @@
 -- `interrupt::is_ready` meets its contract: the class above TPR. Assumes nothing.
 use Rattle.model.specs.Entry.{isReady}
-use Rattle.processor.proofs.Stores.{tpr-read}
+use Rattle.processor.proofs.RecordStores.{tpr-read}
 use borrow.Author.Needs.{needs}
 use Rattle.processor.proofs.interrupt.is_ready.Statement.{statement}
 use Rattle.processor.proofs.interrupt.is_ready.Tie as tie

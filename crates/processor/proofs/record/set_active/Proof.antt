@@ -1,5 +1,5 @@
 -- `record::set_active` meets its contract: word 0. Assumes nothing.
-use Rattle.processor.proofs.Fields.{active-set}
+use Rattle.processor.proofs.RecordFields.{active-set}
 use borrow.Author.Needs.{needs}
 use Rattle.processor.proofs.record.set_active.Statement.{statement}
 use Rattle.processor.proofs.record.set_active.Tie as tie

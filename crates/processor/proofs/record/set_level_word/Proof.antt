@@ -1,29 +1,21 @@
 -- `record::set_level_word` meets its contract: a level of the machine has its words within the array. Assumes nothing.
-use Prim.Native.Nat.{_<_}
-use Rattle.model.proofs.Four.{level-low}
+use Rattle.processor.proofs.RecordWords.{level-found, put-none}
+use Rattle.processor.proofs.RecordFields.{word-stored}
 use mathlib.Core.Path.{sym, _∙_}
-use native.Mathlib.Omega.{arith}
 use borrow.Author.Needs.{needs}
 use Rattle.processor.proofs.record.set_level_word.Statement.{statement}
 use Rattle.processor.proofs.record.set_level_word.Tie as tie
 
-below : (c : tie.Then1) → c .before .before .before .args .l < 4
-below c = level-low _ _ (sym (c .before .is-level .ensures) ∙ c .if1 .taken)
-
 place-requires : tie.Need-place-requires
-place-requires c κs = (below c, c .before .before .before .pre)
-
-mul-words : tie.Need-mul-words
-mul-words c = record { fits = omega (arith, c .place .ensures, below (c .before), c .before .before .before .before .pre) }
-
-slice-write-words : tie.Need-slice-write-words
-slice-write-words c = omega (arith, c .place .ensures, below (c .before), c .before .before .before .before .pre)
+place-requires c κs = (level-found _ _ (c .before .is-level .ensures) (c .if1 .taken), search needs)
 
 returns : tie.Need-returns
-returns c = (rw (sym (c .before .before .is-level .ensures) ∙ c .before .if1 .taken, ← c .place .ensures), search needs)
+returns c =
+    rw (c .place .ensures .0)
+    (word-stored _ _ _ _ _ (search needs) (c .before .before .before .before .pre) (sym (c .before .before .is-level .ensures) ∙ c .before .if1 .taken))
 
 returns-2 : tie.Need-returns-2
-returns-2 c = (rw (sym (c .before .is-level .ensures) ∙ c .if1 .left), search needs)
+returns-2 c = sym (put-none _ _ _ _ (sym (c .before .is-level .ensures) ∙ c .if1 .left))
 
 pub set-level-word-spec : {M : Type 1} → statement M
-set-level-word-spec = tie.close (tie.spec (λ c κs. search needs) place-requires mul-words slice-write-words returns returns-2)
+set-level-word-spec = tie.close (tie.spec (λ c κs. search needs) place-requires (λ c. search needs) (λ c. search needs) returns returns-2)

@@ -1,15 +1,11 @@
 -- `secure::mbec_set` meets its contract, level by level. Assumes nothing.
-use Rattle.processor.proofs.Levels.{upper-bits, none-held}
+use Rattle.processor.proofs.RecordLevels.{upper-bits, none-held}
 use borrow.Author.Needs.{needs}
 use Rattle.processor.proofs.secure.mbec_set.Statement.{statement}
 use Rattle.processor.proofs.secure.mbec_set.Tie as tie
 
 returns : tie.Need-returns
-returns c = rw (c .level-set .ensures, c .before .has-bit3 .ensures, c .before .before .secure-of3 .ensures, c .before .before .before .has-bit2 .ensures, c .before .before .before .before .secure-of2 .ensures, c .before .before .before .before .before .has-bit .ensures, c .before .before .before .before .before .before .secure-of .ensures) (upper-bits _ (none-held _ _ _ 0))
+returns c = rw (c .level-set .ensures, c .before .has-mbec3 .ensures, c .before .before .has-mbec2 .ensures, c .before .before .before .has-mbec .ensures) (upper-bits _ (none-held _ _ _ 0))
 
 pub mbec-set-spec : {M : Type 1} → statement M
-mbec-set-spec =
-    tie.close
-    (tie.spec
-    (λ c κs. search needs) (λ c κs. search needs) (λ c κs. search needs) (λ c κs. search needs) (λ c κs. search needs)
-    (λ c κs. search needs) (λ c κs. search needs) returns)
+mbec-set-spec = tie.close (tie.spec (λ c κs. search needs) (λ c κs. search needs) (λ c κs. search needs) (λ c κs. search needs) returns)

@@ -1,6 +1,6 @@
 -- `secure::unlock` meets its contract: four locks, one after the other. Assumes nothing.
-use Rattle.processor.proofs.Stores.{locks-cleared}
-use Rattle.processor.proofs.Words.{contexts-length}
+use Rattle.processor.proofs.RecordStores.{locks-cleared}
+use Rattle.processor.proofs.RecordWords.{contexts-length}
 use borrow.Author.Needs.{needs}
 use Rattle.processor.proofs.secure.unlock.Statement.{statement}
 use Rattle.processor.proofs.secure.unlock.Tie as tie

@@ -4,8 +4,8 @@ use Prim.Native.Nat.{_+_}
 use mathlib.Core.Path.{_∙_, sym}
 use borrow.Author.Needs.{needs}
 use native.Mathlib.Omega.{arith}
-use Rattle.script.specs.Lines.{tab}
-use Rattle.script.proofs.Places.{at-byte, at-end, end-within, past-byte}
+use Rattle.script.specs.LineForms.{tab}
+use Rattle.script.proofs.FieldPlaces.{at-byte, at-end, end-within, past-byte}
 use Rattle.script.proofs.fields.number_end.Statement.{statement}
 use Rattle.script.proofs.fields.number_end.Tie as tie
 

@@ -3,7 +3,7 @@
 use Prim.Native.Nat.{_-_}
 use borrow.Author.Needs.{needs}
 use native.Mathlib.Omega.{arith}
-use Rattle.script.proofs.Reading.{Reading, ended, no-number, no-row, none-read, number-read, too-few}
+use Rattle.script.proofs.NumberReading.{Reading, ended, no-number, no-row, none-read, number-read, too-few}
 use Rattle.script.proofs.fields.numbers.Statement.{statement}
 use Rattle.script.proofs.fields.numbers.Tie as tie
 

@@ -6,7 +6,7 @@ use borrow.Author.Needs.{needs}
 use native.Mathlib.Nat.{add-zero}
 use native.Mathlib.Omega.{arith}
 use Rattle.script.specs.Search.{byteAt}
-use Rattle.script.proofs.Places.{at-byte, past-byte, past-next}
+use Rattle.script.proofs.FieldPlaces.{at-byte, past-byte, past-next}
 use Rattle.script.proofs.search.bytes_before.Statement.{statement}
 use Rattle.script.proofs.search.bytes_before.Tie as tie
 

@@ -5,7 +5,7 @@ use mathlib.Core.Path.{_≡_, refl, sym, _∙_}
 use borrow.Author.Needs.{needs}
 use lib.ListN.{length}
 use Rattle.script.specs.Search.{byteAt}
-use Rattle.script.proofs.Places.{at-byte, at-end, past-byte}
+use Rattle.script.proofs.FieldPlaces.{at-byte, at-end, past-byte}
 use Rattle.script.proofs.search.find_byte.Statement.{statement}
 use Rattle.script.proofs.search.find_byte.Tie as tie
 

@@ -3,13 +3,13 @@
 use mathlib.Core.Path.{refl}
 use borrow.Author.Needs.{needs}
 use native.Mathlib.Omega.{arith}
-use Rattle.script.specs.Words.{words}
+use Rattle.script.specs.EventWords.{words}
 use Rattle.script.proofs.Naming.{_and_, by-first, done, none-empty, none-first, withFirst}
 use Rattle.script.proofs.words.word_of.Statement.{statement}
 use Rattle.script.proofs.words.word_of.Tie as tie
 
 returns : tie.Need-returns
-returns c = none-empty words _ (c .if1 .taken)
+returns c = none-empty words _ refl (c .if1 .taken)
 
 returns-13 : tie.Need-returns-13
 returns-13 c =
@@ -26,7 +26,7 @@ returns-13 c =
     let no-v = other .0 .1 in
     let no-w = other .1 in
     none-first words _ refl
-    (no-e and no-e and no-c and no-r and no-r and no-w and no-f and no-p and no-c and no-s and no-f and no-r and no-w and no-t and no-a and no-i and no-p and no-v and no-c and done)
+    (no-i and no-e and no-e and no-c and no-r and no-r and no-w and no-f and no-p and no-c and no-s and no-f and no-r and no-w and no-t and no-a and no-p and no-v and no-c and done)
 
 pub word-of-spec : {M : Type 1} → statement M
 word-of-spec =

@@ -1,5 +1,5 @@
 -- `session::lines::begin` meets its contract: the state is the fresh one, and the record has room. Assumes nothing.
-use Rattle.session.proofs.Ending.{after-first, fresh-words, with-first}
+use Rattle.session.proofs.Ending.{fresh-words}
 use mathlib.Core.Path.{_∙_}
 use borrow.Author.Needs.{needs}
 use Rattle.session.proofs.lines.begin.Statement.{statement}
@@ -11,9 +11,9 @@ returns c =
     let start = w .before .before .before .before in
     let o = w .before .before .opened .ensures in
     record {
-      progress = o .0 ∙ rw (o .1, fresh-words (start .args .f) (start .pre .1));
-      wrote = w .write-line .ensures .0 ∙ after-first (start .args .out .now) 0 0 0 0 (start .pre .0);
-      written = w .write-line .ensures .1 ∙ with-first (start .args .out .now) 0 0 0 0 (start .pre .0);
+      progress = o .0 ∙ rw (o .1, fresh-words (start .args .first) (start .pre .1));
+      wrote = w .write-first .ensures .0;
+      written = w .write-first .ensures .1;
     }
 
 pub begin-spec : {M : Type 1} → statement M

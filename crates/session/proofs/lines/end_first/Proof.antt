@@ -10,14 +10,14 @@ returns : tie.Need-returns
 returns c =
     let refused = c .before .before in
     let told = refused .before .before in
-    rw (first-malformed _ (sym (told .before .before .parse-first .ensures) ∙ told .enum-told .given .1)) (refused .refuse-first .ensures)
+    rw (first-malformed _ _ (sym (told .before .before .parse-first .ensures) ∙ told .enum-told .given .1)) (refused .refuse-first .ensures)
 
 returns-2 : tie.Need-returns-2
 returns-2 c =
     let refused = c .before .before in
     let test = refused .before .before in
     let known = test .before .before .before in
-    rw (first-refused _ _ (sym (known .before .before .parse-first .ensures) ∙ known .f .given .1) (sym (test .before .admissible .ensures) ∙ not-true _ (test .if1 .taken)))
+    rw (first-refused _ _ (sym (known .before .before .parse-first .ensures) ∙ known .first .given .1) (sym (test .before .admissible .ensures) ∙ not-true _ (test .if1 .taken)))
     (refused .refuse-first2 .ensures)
 
 begin-requires : tie.Need-begin-requires
@@ -30,7 +30,7 @@ returns-3 c =
     let begun = c .before .before in
     let test = begun .before .before in
     let known = test .before .before .before in
-    rw (first-done _ _ (sym (known .before .before .parse-first .ensures) ∙ known .f .given .1) (sym (test .before .admissible .ensures) ∙ not-false _ (test .if1 .left)))
+    rw (first-done _ _ (sym (known .before .before .parse-first .ensures) ∙ known .first .given .1) (sym (test .before .admissible .ensures) ∙ not-false _ (test .if1 .left)))
     (begun .begin .ensures)
 
 pub end-first-spec : {M : Type 1} → statement M

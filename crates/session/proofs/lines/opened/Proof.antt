@@ -2,7 +2,6 @@
 use Rattle.model.specs.declared.machine.Machine.{Machine}
 use Rattle.session.specs.Session.{lentOf}
 use Rattle.state.proofs.FreshMachine.{fresh-machine}
-use Rattle.state.specs.Parts.{stateOf}
 use lib.ListN.{replicate}
 use mathlib.Core.Path.{refl, ap}
 use borrow.Author.Needs.{needs}
@@ -10,7 +9,7 @@ use Rattle.session.proofs.lines.opened.Statement.{statement}
 use Rattle.session.proofs.lines.opened.Tie as tie
 
 returns : tie.Need-returns
-returns c = (refl, ap (λ (m : Machine). stateOf m (lentOf (replicate 64 0) (c .before .before .before .before .args .lent))) (fresh-machine _ _ _ _ _ (c .before .before .setup-of .ensures) (c .before .fresh-levels .ensures) (c .fresh-masks .ensures) (c .before .before .before .fresh-record .ensures)))
+returns c = (refl, ap (λ (m : Machine). record { machine = m; words = lentOf (replicate 64 0) (c .before .before .before .before .args .lent) }) (fresh-machine _ _ _ _ _ (c .before .before .setup-of .ensures) (c .before .fresh-levels .ensures) (c .fresh-masks .ensures) (c .before .before .before .fresh-record .ensures)))
 
 pub opened-spec : {M : Type 1} → statement M
 opened-spec =

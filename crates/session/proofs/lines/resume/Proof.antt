@@ -1,5 +1,5 @@
 -- `session::lines::resume` meets its contract: the records are those of the array. Assumes nothing.
-use Rattle.state.specs.Parts.{machineOf}
+use Rattle.state.specs.Lent.{machineOf}
 use mathlib.Core.Path.{refl}
 use borrow.Author.Needs.{needs}
 use Rattle.session.proofs.lines.resume.Statement.{statement}

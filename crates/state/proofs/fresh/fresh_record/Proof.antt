@@ -1,4 +1,4 @@
--- `fresh_record` meets its contract: the words are known, and so is what they stand for. Assumes nothing.
+-- `fresh::fresh_record` meets its contract: the words are known, and so is what they stand for. Assumes nothing.
 use Rattle.processor.specs.Record.{rowOf, contextOf, contextIn, vpOf}
 use mathlib.Core.Path.{refl}
 use borrow.Author.Needs.{needs}

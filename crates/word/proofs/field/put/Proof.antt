@@ -10,7 +10,8 @@ use Rattle.word.proofs.field.put.Statement.{statement}
 use Rattle.word.proofs.field.put.Tie as tie
 
 -- The old field, shifted to its place, fits.
-old-fits : (o k w : ℕ) → w < 2 ^ 64 → field o k w * 2 ^ o % 2 ^ 64 ≡ field o k w * 2 ^ o
+old-fits : (offset width word : ℕ) → word < 2 ^ 64
+    → field offset width word * 2 ^ offset % 2 ^ 64 ≡ field offset width word * 2 ^ offset
 old-fits o k w h = mod-eq-of-lt (lt-of-le-of-lt (field-le o k w) h)
 
 returns : tie.Need-returns

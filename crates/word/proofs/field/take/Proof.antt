@@ -10,7 +10,7 @@ use Rattle.word.proofs.field.take.Statement.{statement}
 use Rattle.word.proofs.field.take.Tie as tie
 
 -- `1 << k` is 2 ^ k.
-one-shifted : (k : ℕ) → k < 64 → 1 * 2 ^ k % 2 ^ 64 ≡ 2 ^ k
+one-shifted : (width : ℕ) → width < 64 → 1 * 2 ^ width % 2 ^ 64 ≡ 2 ^ width
 one-shifted k h = rw one-mul (mod-eq-of-lt (pow-lt h))
 
 returns : tie.Need-returns

@@ -5,7 +5,7 @@ use Prim.Native.Nat.{_-_}
 use borrow.Author.Needs.{needs}
 use native.Mathlib.Omega.{arith}
 use lib.ListN.{length}
-use Rattle.xalevinda.proofs.Room.{Counted, counted-done, counted-feed, counted-other}
+use Rattle.xalevinda.proofs.ListingRoom.{Counted, counted-done, counted-feed, counted-other}
 use Rattle.xalevinda.proofs.written.line_feeds.Statement.{statement}
 use Rattle.xalevinda.proofs.written.line_feeds.Tie as tie
 

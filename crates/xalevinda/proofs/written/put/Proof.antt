@@ -2,7 +2,7 @@
 use mathlib.Core.Path.{sym}
 use borrow.Author.Needs.{needs}
 use native.Mathlib.Omega.{arith}
-use Rattle.decimal.proofs.Room.{with-no-room}
+use Rattle.decimal.proofs.TextRoom.{with-no-room}
 use Rattle.xalevinda.proofs.Storing.{copied}
 use Rattle.xalevinda.proofs.written.put.Statement.{statement}
 use Rattle.xalevinda.proofs.written.put.Tie as tie

@@ -7,7 +7,8 @@ use borrow.Rule.Slice.PartMut.{midOf}
 use native.Mathlib.Omega.{arith}
 use lib.ListN.{drop, length, length-drop}
 use Rattle.session.specs.Session.{progressOf}
-use Rattle.xalevinda.proofs.Listed.{Listed, listed-done, listed-fed, listed-start, some-used}
+use Rattle.xalevinda.proofs.Listed.{Listed, listed-done, listed-fed, listed-start}
+use Rattle.session.proofs.WholeListing.{some-used}
 use Rattle.xalevinda.proofs.Storing.{part-whole}
 use Rattle.xalevinda.proofs.written.write.Statement.{statement}
 use Rattle.xalevinda.proofs.written.write.Tie as tie

@@ -1,0 +1,1 @@
+pub mod ConfiguredMasks  -- a configuration word stored, and masks filled
