@@ -1,5 +1,5 @@
 -- Who denies an access and who receives the intercept, by the parts that the function is given. Assumes nothing.
-use mathlib.Core.Path.{_≡_, refl, sym, ap, _∙_}
+use mathlib.Core.Path.{_≡_, sym, ap, _∙_}
 use mathlib.Core.Bool.{not}
 use Prim.Native.Nat.{ℕ}
 use lib.Dec.{eqb}
@@ -15,8 +15,8 @@ use Rattle.model.specs.declared.quantity.Page.{Page}
 use Rattle.model.specs.declared.set.LevelSet.{LevelSet}
 use Rattle.model.specs.Bounded.{bits}
 use Rattle.model.specs.Memory.{mbecOn, denied, receiver}
-use Rattle.model.specs.State.{State, level, levelSet, shape, pages, partition, activeOf, enabledAt, enabledOn, secureOf, mbecBit}
-use Rattle.partition.proofs.DenyingLevels.{mbecsOn, attemptOn, denyingOn, denied-of, receiver-of}
+use Rattle.model.specs.State.{State, level, levelSet, activeOf, enabledAt, enabledOn, secureOf, mbecBit}
+use Rattle.partition.proofs.DenyingLevels.{mbecsOn, denyingOn, denied-of, receiver-of}
 use Rattle.partition.specs.Denying.{denyingSet, lowestIn}
 use Rattle.promise.proofs.Outcomes.{the-enabled-on}
 use Rattle.promise.specs.Promise.{Runs, Acts}

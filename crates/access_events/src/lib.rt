@@ -9,7 +9,6 @@ ghost use Rattle.partition.specs.PartitionView.{partitionOf};
 ghost use Rattle.processor.specs.Record.{vpOf};
 ghost use Rattle.promise.specs.Promise.{result, Runs, Acts, Lends};
 ghost use Rattle.access_events.specs.Access.{accessed, accessValue, wordsDone, putAccess};
-use entry::enter;
 use model::answer::Answer;
 use model::answer::Refusal;
 use model::machine::BY_INTERRUPT;
@@ -113,7 +112,7 @@ pub fn access(
     );
     let receiver = lowest(denying, enabled_set(shape, vp));
     if receiver.0 < NO_LEVEL {
-        enter(shape, vp, receiver, BY_INTERRUPT);
+        entry::enter(shape, vp, receiver, BY_INTERRUPT);
         return Answer::Intercept(receiver);
     }
     if denying.0 != 0 {

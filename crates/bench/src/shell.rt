@@ -2,7 +2,6 @@
 // moves no contract can say; so this is kept as thin as it can be.
 ghost use mathlib.Core.Path.{_≡_};
 ghost use lib.ListN.{length};
-use session::LONGEST_RECORD;
 use session::Session;
 
 // The bytes that are read at once, and as many that are written at once. What is done once a call is then spread over thousands of
@@ -57,9 +56,9 @@ fn turn(start: Session, chunk: &[u8], out: &mut [u8]) -> Turned {
 }
 
 // The input has ended: writes the record of a last line that lacks its line feed.
-fn close(s: Session) {
-    let mut last = [0u8; LONGEST_RECORD];
-    let wrote = session::finish(s, &mut last);
+fn close(current: Session) {
+    let mut last = [0u8; session::LONGEST_RECORD];
+    let wrote = session::finish(current, &mut last);
     write(&last[..wrote]);
 }
 

@@ -12,10 +12,10 @@ use script::search::find_far_byte;
 pub const KEPT_BYTES: usize = script::LONGEST_LINE + 1;
 
 // The smaller of two numbers.
-pub fn at_most(n: usize, most: usize) -> usize
-    ensures { λ r. ⌜ r ≡ min n most ⌝ }
+pub fn at_most(number: usize, most: usize) -> usize
+    ensures { λ r. ⌜ r ≡ min number most ⌝ }
 {
-    if n < most { n } else { most }
+    if number < most { number } else { most }
 }
 
 // Where the line that starts at `start` ends: at the next line feed, or at the chunk's end.
@@ -28,7 +28,8 @@ pub fn line_end(chunk: &[u8], start: usize) -> usize
 // Puts more bytes after the first `length` of a line, as far as there is room, and returns how many it then has. What the buffer holds
 // beyond them is no part of a line, and nothing is promised of it.
 pub fn append(line: &mut [u8; KEPT_BYTES], length: usize, more: &[u8]) -> usize
-    ensures { λ r. ⌜ held (now (line .exit)) r ≡ take keptBytes (held (now (line .entry)) length ++ now (more .entry)) ⌝ }
+    ensures { λ r. ⌜ held (now (line .exit)) r
+        ≡ take keptBytes (held (now (line .entry)) length ++ now (more .entry)) ⌝ }
 {
     let buffer: &mut [u8] = line;
     let mut at = at_most(length, KEPT_BYTES);

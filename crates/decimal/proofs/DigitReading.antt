@@ -59,9 +59,9 @@ followed (Value m) h = (m, refl, h)
 followed Malformed h = no-number h
 
 -- Where two tests both hold, each does.
-pub both : (a b : Bool) → (a && b) ≡ true → (a ≡ true) × (b ≡ true)
-both true b h = (refl, h)
-both false b h = absurd (let z : _≡_ {A = ℕ} 0 1 = cc in omega arith)
+pub and-parts : (a b : Bool) → (a && b) ≡ true → (a ≡ true) × (b ≡ true)
+and-parts true b h = (refl, h)
+and-parts false b h = absurd (let z : _≡_ {A = ℕ} 0 1 = cc in omega arith)
 
 -- Where two tests let a number pass, both held.
 tested : (a b : Bool) {m n : ℕ} → cond (a && b) (Value m) Malformed ≡ Value n → (a ≡ true) × (b ≡ true) × (m ≡ n)

@@ -15,18 +15,12 @@ use model::machine::Control;
 use model::machine::Shape;
 use model::quantity::Level;
 use model::quantity::NO_LEVEL;
-use model::register::RAX;
-use model::register::RCX;
-use model::register::RIP;
+use model::register;
 use processor::control::control_of;
 use processor::control::set_control;
-use processor::interrupt::enters;
-use processor::interrupt::highest_ready;
-use processor::interrupt::set_pending;
+use processor::interrupt;
+use processor::record;
 use processor::record::Record;
-use processor::record::active_of;
-use processor::record::enabled_at;
-use processor::record::set_active;
 use processor::record_registers::private_of;
 use processor::record_registers::set_private;
 use processor::record_registers::set_shared;
@@ -40,12 +34,12 @@ pub fn enter(shape: Shape, vp: &mut Record, level: Level, reason: u64)
 {
     let control = Control {
         reason,
-        from: active_of(vp),
-        rax: shared_of(vp, RAX),
-        rcx: shared_of(vp, RCX),
+        from: record::active_of(vp),
+        rax: shared_of(vp, register::RAX),
+        rcx: shared_of(vp, register::RCX),
     };
     set_control(shape, vp, level, control);
-    set_active(vp, level);
+    record::set_active(vp, level);
 }
 
 // The least of the levels 1 to 3 that is chosen; NO_LEVEL if none is.
@@ -78,14 +72,14 @@ fn highest_of(one: bool, two: bool, three: bool) -> Level
 fn is_above(shape: Shape, vp: &Record, active: Level, level: Level) -> bool
     ensures { λ r. ⌜ r ≡ (ltb (active .0) (level .0) && enabledAt shape (vpOf (now (vp .entry))) (level .0)) ⌝ }
 {
-    (active.0 < level.0) & enabled_at(shape, vp, level)
+    (active.0 < level.0) & record::enabled_at(shape, vp, level)
 }
 
 // The next enabled level above the active one; its number is NO_LEVEL if there is none.
 pub fn next_up(shape: Shape, vp: &Record) -> Level
     ensures { λ r. ⌜ r .0 ≡ nextUp shape (vpOf (now (vp .entry))) ⌝ }
 {
-    let active = active_of(vp);
+    let active = record::active_of(vp);
     least_of(
         is_above(shape, vp, active, Level(1)),
         is_above(shape, vp, active, Level(2)),
@@ -97,9 +91,9 @@ pub fn next_up(shape: Shape, vp: &Record) -> Level
 fn advance(shape: Shape, vp: &mut Record, length: u64)
     ensures { λ _. ⌜ vpOf (now (vp .exit)) ≡ advanced shape (vpOf (now (vp .entry))) length ⌝ }
 {
-    let active = active_of(vp);
-    let rip = wrapping_add_u64(private_of(shape, vp, active, RIP), length);
-    set_private(shape, vp, active, RIP, rip);
+    let active = record::active_of(vp);
+    let rip = wrapping_add_u64(private_of(shape, vp, active, register::RIP), length);
+    set_private(shape, vp, active, register::RIP, rip);
 }
 
 // call: the caller's RIP moves on, and the level is entered by call.
@@ -117,7 +111,7 @@ fn advance_after_call(shape: Shape, vp: &mut Record, length: u64)
         vpOf (now (vp .exit))
         ≡ cond (eqb (context shape q (activeOf q) .control .reason) byCall) (advanced shape q length) q) ⌝ }
 {
-    let control = control_of(shape, vp, active_of(vp));
+    let control = control_of(shape, vp, record::active_of(vp));
     if control.reason == BY_CALL {
         advance(shape, vp, length);
     }
@@ -129,9 +123,9 @@ fn restore(vp: &mut Record, control: Control)
         vpOf (now (vp .exit))
         ≡ cond (eqb (sharedOf q rcx) 0) (setShared (setShared q rax (control .rax)) rcx (control .rcx)) q) ⌝ }
 {
-    if shared_of(vp, RCX) == 0 {
-        set_shared(vp, RAX, control.rax);
-        set_shared(vp, RCX, control.rcx);
+    if shared_of(vp, register::RCX) == 0 {
+        set_shared(vp, register::RAX, control.rax);
+        set_shared(vp, register::RCX, control.rcx);
     }
 }
 
@@ -139,10 +133,10 @@ fn restore(vp: &mut Record, control: Control)
 fn leave(shape: Shape, vp: &mut Record)
     ensures { λ _. ⌜ vpOf (now (vp .exit)) ≡ left shape (vpOf (now (vp .entry))) ⌝ }
 {
-    let active = active_of(vp);
+    let active = record::active_of(vp);
     let control = control_of(shape, vp, active);
     restore(vp, control);
-    set_active(vp, control.from);
+    record::set_active(vp, control.from);
 }
 
 // Is the level above the active one, and enabled with a ready vector?
@@ -153,7 +147,7 @@ fn is_waiting(shape: Shape, vp: &Record, active: Level, level: Level) -> bool
         && not (eqb (highestReady (context shape q (level .0))) 0))) ⌝ }
 {
     if is_above(shape, vp, active, level) {
-        return highest_ready(shape, vp, level) != 0;
+        return interrupt::highest_ready(shape, vp, level) != 0;
     }
     false
 }
@@ -162,7 +156,7 @@ fn is_waiting(shape: Shape, vp: &Record, active: Level, level: Level) -> bool
 fn waiting(shape: Shape, vp: &Record) -> Level
     ensures { λ r. ⌜ r .0 ≡ waiting shape (vpOf (now (vp .entry))) ⌝ }
 {
-    let active = active_of(vp);
+    let active = record::active_of(vp);
     let one = is_waiting(shape, vp, active, Level(1));
     let two = is_waiting(shape, vp, active, Level(2));
     let three = is_waiting(shape, vp, active, Level(3));
@@ -184,7 +178,7 @@ fn reenter(shape: Shape, vp: &mut Record)
 pub fn vtl_return(shape: Shape, vp: &mut Record, length: u64)
     ensures { λ _. ⌜ vpOf (now (vp .exit)) ≡ returned shape (vpOf (now (vp .entry))) length ⌝ }
 {
-    let actor = active_of(vp);
+    let actor = record::active_of(vp);
     advance_after_call(shape, vp, length);
     unlock(shape, vp, actor);
     leave(shape, vp);
@@ -196,8 +190,8 @@ pub fn vtl_return(shape: Shape, vp: &mut Record, length: u64)
 pub fn interrupt(shape: Shape, vp: &mut Record, target: Level, vector: u64)
     ensures { λ _. ⌜ vpOf (now (vp .exit)) ≡ interrupted shape (vpOf (now (vp .entry))) (target .0) vector ⌝ }
 {
-    let entering = enters(shape, vp, target, vector);
-    set_pending(shape, vp, target, vector, 1);
+    let entering = interrupt::enters(shape, vp, target, vector);
+    interrupt::set_pending(shape, vp, target, vector, 1);
     if entering {
         enter(shape, vp, target, BY_INTERRUPT);
     }

@@ -13,21 +13,12 @@ ghost use Rattle.model.specs.Updates.{putVp};
 ghost use Rattle.partition.specs.PartitionView.{partitionOf};
 ghost use Rattle.processor.specs.Record.{vpOf};
 ghost use Rattle.promise.specs.Promise.{result, Runs, Acts};
-use entry::interrupt;
-use entry::next_up;
-use entry::vtl_call;
-use entry::vtl_return;
 use model::answer::Answer;
 use model::answer::Refusal;
 use model::machine::Shape;
-use model::quantity::FIRST_VECTOR;
-use model::quantity::HIGHEST_LEVEL;
-use model::quantity::LAST_VECTOR;
-use model::quantity::LONGEST_INSTRUCTION;
+use model::quantity;
 use model::quantity::Level;
 use model::quantity::Mode;
-use model::quantity::NO_LEVEL;
-use model::quantity::is_user;
 use model::register::CR0;
 use model::register::INTERRUPT_BIT;
 use model::register::PROTECTED_BIT;
@@ -37,9 +28,7 @@ use partition::level::Levels;
 use partition::level::enabled_for;
 use processor::control::InitialContext;
 use processor::control::start;
-use processor::interrupt::enters;
-use processor::interrupt::highest_ready;
-use processor::interrupt::set_pending;
+use processor::interrupt;
 use processor::record::Record;
 use processor::record::active_of;
 use processor::record::enabled_at;
@@ -53,10 +42,10 @@ pub fn call(shape: Shape, vp: &mut Record, mode: Mode, length: u64) -> Answer
     ensures { λ r. ⌜ ((s : State) (v : ℕ) → Runs shape (vpOf (now (vp .entry))) s v
         → acted s v mode (Call length) ≡ result r (putVp s v (vpOf (now (vp .exit))))) ⌝ }
 {
-    if (length == 0) | (LONGEST_INSTRUCTION < length) {
+    if (length == 0) | (quantity::LONGEST_INSTRUCTION < length) {
         return Answer::Refused(Refusal::LengthOutOfRange);
     }
-    if is_user(mode) {
+    if quantity::is_user(mode) {
         return Answer::Refused(Refusal::UserMode);
     }
     let actor = active_of(vp);
@@ -66,11 +55,11 @@ pub fn call(shape: Shape, vp: &mut Record, mode: Mode, length: u64) -> Answer
     if !(shared_of(vp, RCX) == 0) {
         return Answer::Refused(Refusal::RcxNotZero);
     }
-    let next = next_up(shape, vp);
-    if next.0 == NO_LEVEL {
+    let next = entry::next_up(shape, vp);
+    if next.0 == quantity::NO_LEVEL {
         return Answer::Refused(Refusal::NoHigherLevel);
     }
-    vtl_call(shape, vp, next, length);
+    entry::vtl_call(shape, vp, next, length);
     Answer::Done(next.0)
 }
 
@@ -79,10 +68,10 @@ pub fn ret(shape: Shape, vp: &mut Record, mode: Mode, length: u64) -> Answer
     ensures { λ r. ⌜ ((s : State) (v : ℕ) → Runs shape (vpOf (now (vp .entry))) s v
         → acted s v mode (Ret length) ≡ result r (putVp s v (vpOf (now (vp .exit))))) ⌝ }
 {
-    if (length == 0) | (LONGEST_INSTRUCTION < length) {
+    if (length == 0) | (quantity::LONGEST_INSTRUCTION < length) {
         return Answer::Refused(Refusal::LengthOutOfRange);
     }
-    if is_user(mode) {
+    if quantity::is_user(mode) {
         return Answer::Refused(Refusal::UserMode);
     }
     let actor = active_of(vp);
@@ -92,7 +81,7 @@ pub fn ret(shape: Shape, vp: &mut Record, mode: Mode, length: u64) -> Answer
     if 1 < shared_of(vp, RCX) {
         return Answer::Refused(Refusal::RcxAboveOne);
     }
-    vtl_return(shape, vp, length);
+    entry::vtl_return(shape, vp, length);
     let active = active_of(vp);
     Answer::Done(active.0)
 }
@@ -113,13 +102,13 @@ pub fn envp(
         → acted s v mode (Envp w target (initial .rip) (initial .rsp) (initial .cr0))
         ≡ result r (putVp s (w .0) (vpOf (now (vp .exit))))) ⌝ }
 {
-    if HIGHEST_LEVEL < target.0 {
+    if quantity::HIGHEST_LEVEL < target.0 {
         return Answer::Refused(Refusal::LevelOutOfRange);
     }
     if !has_bit(initial.cr0, PROTECTED_BIT) {
         return Answer::Refused(Refusal::Cr0InRealMode);
     }
-    if is_user(mode) {
+    if quantity::is_user(mode) {
         return Answer::Refused(Refusal::UserMode);
     }
     if target.0 == 0 {
@@ -146,10 +135,10 @@ pub fn int(shape: Shape, vp: &mut Record, target: Level, vector: u64) -> Answer
     ensures { λ r. ⌜ ((s : State) (w : Processor) → Runs shape (vpOf (now (vp .entry))) s (w .0)
         → ruled s (Int w target vector) ≡ result r (putVp s (w .0) (vpOf (now (vp .exit))))) ⌝ }
 {
-    if HIGHEST_LEVEL < target.0 {
+    if quantity::HIGHEST_LEVEL < target.0 {
         return Answer::Refused(Refusal::LevelOutOfRange);
     }
-    if (vector < FIRST_VECTOR) | (LAST_VECTOR < vector) {
+    if (vector < quantity::FIRST_VECTOR) | (quantity::LAST_VECTOR < vector) {
         return Answer::Refused(Refusal::VectorOutOfRange);
     }
     if shape.max_level.0 < target.0 {
@@ -158,8 +147,8 @@ pub fn int(shape: Shape, vp: &mut Record, target: Level, vector: u64) -> Answer
     if !enabled_at(shape, vp, target) {
         return Answer::Refused(Refusal::NotEnabledOnProcessor);
     }
-    let entered = one_if(enters(shape, vp, target, vector));
-    interrupt(shape, vp, target, vector);
+    let entered = one_if(interrupt::enters(shape, vp, target, vector));
+    entry::interrupt(shape, vp, target, vector);
     Answer::Done(entered)
 }
 
@@ -168,17 +157,17 @@ pub fn ack(shape: Shape, vp: &mut Record, mode: Mode) -> Answer
     ensures { λ r. ⌜ ((s : State) (v : ℕ) → Runs shape (vpOf (now (vp .entry))) s v
         → acted s v mode Ack ≡ result r (putVp s v (vpOf (now (vp .exit))))) ⌝ }
 {
-    if is_user(mode) {
+    if quantity::is_user(mode) {
         return Answer::Refused(Refusal::UserMode);
     }
     let actor = active_of(vp);
-    let vector = highest_ready(shape, vp, actor);
+    let vector = interrupt::highest_ready(shape, vp, actor);
     if vector == 0 {
         return Answer::Refused(Refusal::NoReadyVector);
     }
     if !has_bit(private_of(shape, vp, actor, RFLAGS), INTERRUPT_BIT) {
         return Answer::Refused(Refusal::InterruptFlagClear);
     }
-    set_pending(shape, vp, actor, vector, 0);
+    interrupt::set_pending(shape, vp, actor, vector, 0);
     Answer::Done(vector)
 }

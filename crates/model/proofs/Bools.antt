@@ -16,8 +16,8 @@ pub and-right : (a b : Bool) → (a && b) ≡ true → b ≡ true
 and-right true b h = h
 and-right false b h = absurd (false≢true h)
 
-pub both : (a b : Bool) → a ≡ true → b ≡ true → (a && b) ≡ true
-both a b p q = rw (p, q)
+pub and-both : (a b : Bool) → a ≡ true → b ≡ true → (a && b) ≡ true
+and-both a b p q = rw (p, q)
 
 pub or-left : (a b : Bool) → (a || b) ≡ false → a ≡ false
 or-left true b h = absurd (true≢false h)
@@ -94,7 +94,7 @@ pub cond-else : {A : Type 0} (b : Bool) (x y : A) → cond b x (cond b x y) ≡ 
 cond-else true x y = refl
 cond-else false x y = refl
 
--- What holds of both choices holds of the choice.
+-- What holds of and-both choices holds of the choice.
 pub cond-holds : {A : Type 0} (P : A → Type 0) (b : Bool) (x y : A) → P x → P y → P (cond b x y)
 cond-holds P true x y p q = p
 cond-holds P false x y p q = q

@@ -11,7 +11,7 @@ use Rattle.model.specs.Masks.{validMask}
 use Rattle.model.specs.State.{State, inRange, partition, processors, shape, top, maxLevel, pages, isLevel, isProcessor, isPage, vp, activeOf, enabledAt, maskIn, maskOf, hostMask}
 use Rattle.model.specs.WellFormed.{wellSized, wellFormedVp, wellFormedLevel, wellFormedParts, wellModed, wellFormed}
 use Rattle.model.proofs.Bools.{and-left, and-right, implied, hold}
-use Rattle.model.proofs.Bounded.{every-at}
+use Rattle.model.proofs.BoundedLaws.{every-at}
 use Rattle.model.proofs.Found.{enabled-level}
 
 module _ (s : State) (w : wellFormed s ≡ true) where

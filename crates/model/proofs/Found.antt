@@ -5,14 +5,12 @@ use Prim.Native.Nat.{ℕ, _<_}
 use native.Mathlib.Omega.{arith}
 use lib.Dec.{ltb, eqb}
 use borrow.Author.Tests.{ltb-true, eqb-false}
-use Rattle.model.specs.declared.machine.Shape.{Shape}
-use Rattle.model.specs.declared.machine.VirtualProcessor.{VirtualProcessor}
 use Rattle.model.specs.Entry.{highestReady, nextUp, advanced, waiting}
-use Rattle.model.specs.State.{isLevel, context, activeOf, enabledAt}
+use Rattle.model.specs.State.{Shape, VirtualProcessor, isLevel, context, activeOf, enabledAt}
 use Rattle.model.specs.Updates.{putContext, setPrivate, unlocked}
 use Rattle.model.proofs.Bools.{and-left, and-right}
 use Rattle.model.proofs.LevelSets.{in-level}
-use Rattle.model.proofs.Bounded.{least-le, least-found, highest-found}
+use Rattle.model.proofs.BoundedLaws.{least-le, least-found, highest-found}
 
 module _ (z : Shape) where
   -- A level that is enabled is one of the machine's.

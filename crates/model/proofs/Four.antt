@@ -7,8 +7,7 @@ use native.Mathlib.Omega.{arith}
 use lib.Dec.{leb, ltb}
 use lib.ListN.{getD, set}
 use borrow.Author.Tests.{ltb-true}
-use Rattle.model.specs.declared.machine.Shape.{Shape}
-use Rattle.model.specs.State.{top, isLevel}
+use Rattle.model.specs.State.{Shape, top, isLevel}
 use Rattle.model.proofs.Bools.{and-right}
 
 -- A level of the machine is below 4.
@@ -16,17 +15,21 @@ pub level-low : (z : Shape) (l : ℕ) → isLevel z l ≡ true → l < 4
 unfolding isLevel
 level-low z l e = ltb-true l 4 (and-right (leb l (top z)) (ltb l 4) e)
 
+-- What holds of 0, 1, 2 and 3 holds of each number below 4.
+pub below-four : (P : ℕ → Type 0) → P 0 → P 1 → P 2 → P 3 → (i : ℕ) → i < 4 → P i
+below-four P a b c d zero h = a
+below-four P a b c d (suc zero) h = b
+below-four P a b c d (suc (suc zero)) h = c
+below-four P a b c d (suc (suc (suc zero))) h = d
+below-four P a b c d (suc (suc (suc (suc i)))) h = absurd (omega arith)
+
 -- Four entries by their number.
 module _ {A : Type 0} (f : ℕ → A) where
   abbrev pub four : List A
   four = f 0 ∷ f 1 ∷ f 2 ∷ f 3 ∷ []
 
   pub four-at : (d : A) (l : ℕ) → l < 4 → getD four l d ≡ f l
-  four-at d zero h = refl
-  four-at d (suc zero) h = refl
-  four-at d (suc (suc zero)) h = refl
-  four-at d (suc (suc (suc zero))) h = refl
-  four-at d (suc (suc (suc (suc l)))) h = absurd (omega arith)
+  four-at d = below-four (λ l. getD four l d ≡ f l) refl refl refl refl
 
 pub four-set : {A : Type 0} (f g : ℕ → A) (l : ℕ) → l < 4 → ((i : ℕ) → i < 4 → (i ≡ l → ⊥) → g i ≡ f i) → four g ≡ set (four f) l (g l)
 four-set f g zero h k = rw (k 1 (omega arith) (λ e. omega arith), k 2 (omega arith) (λ e. omega arith), k 3 (omega arith) (λ e. omega arith))

@@ -1,33 +1,27 @@
 -- A step keeps a state well formed. Assumes nothing.
 use mathlib.Core.Path.{_≡_, refl, sym, _∙_, ap}
 use mathlib.Core.Bool.{Bool, true, false, not, cond, _&&_, _||_, false≢true, and-false, or-true}
-use mathlib.Core.List.{List, [], _∷_}
+use mathlib.Core.List.{List}
 use mathlib.Core.Option.{Option, none, some}
 use Prim.Native.Nat.{ℕ, zero, suc, _+_, _*_, _<_}
 use native.Mathlib.Omega.{arith}
 use lib.Dec.{leb, ltb, eqb}
 use borrow.Author.Tests.{lt-ltb, le-leb, eq-eqb, ltb-true, ltb-false, eqb-true, eqb-false, not-true, not-false}
 use Rattle.word.specs.Field.{bit}
-use Rattle.model.specs.declared.event.Event.{Event}
-use Rattle.model.specs.declared.event.Action.the-variants.{Enpart, Envp, Call, Ret, Read, Write, Fetch, Protect, Config, Secure, Flush, Rreg, Wreg, Tpr, Ack, Pstat, Vstat, Caps}
-use Rattle.model.specs.declared.event.Event.the-variants.{Made, Int}
-use Rattle.model.specs.declared.machine.Partition.{Partition}
-use Rattle.model.specs.declared.machine.Shape.{Shape}
-use Rattle.model.specs.declared.machine.VirtualProcessor.{VirtualProcessor}
 use Rattle.model.specs.Arrays.{numberAt, stored}
-use Rattle.model.specs.Bounded.{every, allOf}
+use Rattle.model.specs.Bounded.{every}
 use Rattle.model.specs.Claims.{StepKeeps}
 use Rattle.model.specs.Entry.{enter, called, returned, interrupted, started, acknowledged, byInterrupt}
 use Rattle.model.specs.Events.{configured}
 use Rattle.model.specs.Masks.{validMask, kernelOnly, defaultMask, turnsOn, reservedSet, secureReservedSet, protectsIn, protects}
-use Rattle.model.specs.State.{State, processors, shape, maxLevel, pages, partition, isLevel, isProcessor, vp, context, activeOf, active, enabledAt, enabledOn, enabledFor, mbecFor, configIn, configOf, maskIn, maskOf, mbecBit}
-use Rattle.model.specs.Step.{rule, ruleOf, maker, intercepted, nextFor, step}
+use Rattle.model.specs.State.{State, Partition, Shape, VirtualProcessor, processors, shape, maxLevel, pages, partition, isLevel, isProcessor, vp, context, activeOf, active, enabledAt, enabledOn, enabledFor, mbecFor, configIn, configOf, maskIn, maskOf, mbecBit}
+use Rattle.model.specs.Step.{Event, Enpart, Envp, Call, Ret, Read, Write, Fetch, Protect, Config, Secure, Flush, Rreg, Wreg, Tpr, Ack, Pstat, Vstat, Caps, Made, Int, rule, ruleOf, maker, intercepted, nextFor, step}
 use Rattle.model.specs.Updates.{withMasks, setRegister, setTpr, setSecure, enableLevel, setConfig, setMask, filled, fillMasks, putVp, putPartition, setWord, onVp, onPartition}
 use Rattle.model.specs.WellFormed.{wellSized, wellFormedVp, wellFormedLevelBy, wellFormedLevel, wellFormedParts, wellModed, wellFormed}
-use Rattle.model.proofs.Answers.{Passed, Taken, step-cases}
-use Rattle.model.proofs.Arrays.{number-cases, number-new}
-use Rattle.model.proofs.Bools.{and-left, and-right, and-not, and-off, both, or-left, implied, implies-test, hold, all-hold, cond-holds, positive}
-use Rattle.model.proofs.Bounded.{every-at, every-all}
+use Rattle.model.proofs.AnswerLaws.{Passed, Taken, step-cases}
+use Rattle.model.proofs.ArrayLaws.{number-cases, number-new}
+use Rattle.model.proofs.Bools.{and-left, and-right, and-not, and-off, and-both, or-left, implied, implies-test, hold, all-hold, cond-holds, positive}
+use Rattle.model.proofs.BoundedLaws.{every-at, every-all}
 use Rattle.model.specs.Hide.{quietMaker}
 use Rattle.model.proofs.Formed
 use Rattle.model.proofs.Formed.{well-sized, well-parts, well-moded, is-processor, is-level, active-level}
@@ -134,7 +128,7 @@ masks-tests m n w on mbec valid kernel h =
               (
                 implies-test (mbec && turnsOn w) _ (λ b.
                     let q = implied (mbec && turnsOn w) _ (t .1 .1 .1 .1 .1 .0) b in
-                    both (not (kernelOnly (defaultMask w))) _ (and-left (not (kernelOnly (defaultMask w))) _ q)
+                    and-both (not (kernelOnly (defaultMask w))) _ (and-left (not (kernelOnly (defaultMask w))) _ q)
                     (every-all 64 _ (λ p i. kernel (and-left mbec (turnsOn w) b) (and-right mbec (turnsOn w) b) p (every-at 64 _ (and-right (not (kernelOnly (defaultMask w))) _ q) p i)))),
                 tt,
               ),
@@ -230,7 +224,7 @@ module _ (s : State) (g w : ℕ) (h : wellFormedParts s ≡ true) (o : 0 < g) (b
             (
               implies-test (mbecFor s g && turnsOn w) _ (λ q.
                   let mb = and-left (mbecFor s g) (turnsOn w) q in
-                  both (not (kernelOnly (defaultMask w))) _ (rw (and-off (kernelOnly (defaultMask w)) (mbecFor s g) kx mb)) (kernel mb (and-right (mbecFor s g) (turnsOn w) q))),
+                  and-both (not (kernelOnly (defaultMask w))) _ (rw (and-off (kernelOnly (defaultMask w)) (mbecFor s g) kx mb)) (kernel mb (and-right (mbecFor s g) (turnsOn w) q))),
               tt,
             ),
           ),
@@ -281,7 +275,7 @@ module _ (s : State) (g w : ℕ) (h : wellFormedParts s ≡ true) (o : 0 < g) (b
           rw swapped (config-parts filled-state g w (filled-parts off) o filled-tests)
       go false e = config-parts s g w h o (word-tests (maskOf s g) (hold _ level-tests .0) (λ mb turned.
           let was : turnsOn (configOf s g) ≡ true = sym config-is ∙ unfold protects in not-false (protectsIn (shape s) (partition s .configs) g) (and-not (turnsOn w) (not (protectsIn (shape s) (partition s .configs) g)) e turned) in
-          and-right (not (kernelOnly (defaultMask (configOf s g)))) _ (implied (mbecFor s g && turnsOn (configOf s g)) _ (hold _ level-tests .1 .1 .1 .1 .1 .0) (rw was (both (mbecFor s g) true mb refl)))))
+          and-right (not (kernelOnly (defaultMask (configOf s g)))) _ (implied (mbecFor s g && turnsOn (configOf s g)) _ (hold _ level-tests .1 .1 .1 .1 .1 .0) (rw was (and-both (mbecFor s g) true mb refl)))))
 
 -- A step from a well-formed state.
 module _ (s : State) (w : wellFormed s ≡ true) where
@@ -350,7 +344,7 @@ module _ (s : State) (w : wellFormed s ≡ true) where
       let legal : secureReservedSet x ≡ false = search in
       let mbec : (bit x mbecBit && not (mbecFor s (activeOf (vp s (v .0))))) ≡ false = search in
       onVp-parts s (v .0) (λ z p. setSecure z p (activeOf p) (l .0) x) parts (λ i g. Sound.setSecure-sound (shape s) (enabledFor s) (mbecFor s) (vp s (v .0)) (activeOf (vp s (v .0))) (l .0) x (active-level s w (v .0) i)
-      (both (not (secureReservedSet x)) _ (rw legal) (implies-test (bit x mbecBit) _ (λ b. not-false (mbecFor s (activeOf (vp s (v .0)))) (and-not (bit x mbecBit) _ mbec b)))) g)
+      (and-both (not (secureReservedSet x)) _ (rw legal) (implies-test (bit x mbecBit) _ (λ b. not-false (mbecFor s (activeOf (vp s (v .0)))) (and-not (bit x mbecBit) _ mbec b)))) g)
   effect-parts (Made v mode Flush) ps = parts
   effect-parts (Made v mode (Rreg g r)) ps = parts
   effect-parts (Made v mode (Wreg g r x)) ps = onVp-parts s (v .0) (λ z p. setRegister z p (g .0) r x) parts (λ i h. Sound.setRegister-sound (shape s) (enabledFor s) (mbecFor s) (vp s (v .0)) (g .0) r x (is-level s w (g .0) search) h)
@@ -383,8 +377,8 @@ module _ (s : State) (w : wellFormed s ≡ true) where
 pub step-keeps : StepKeeps
 unfolding wellFormed wellSized maxLevel
 step-keeps s e w =
-    both (wellSized (step s e .next) && wellFormedParts (step s e .next)) (wellModed (step s e .next))
-    (both (wellSized (step s e .next)) (wellFormedParts (step s e .next)) (rw (ap (λ f. f .0) (m .frame-kept), ap (λ f. f .1) (m .frame-kept), ap (λ f. f .2) (m .frame-kept), ap (λ f. f .3) (m .frame-kept)) (well-sized s w)) (parts-kept s w e))
+    and-both (wellSized (step s e .next) && wellFormedParts (step s e .next)) (wellModed (step s e .next))
+    (and-both (wellSized (step s e .next)) (wellFormedParts (step s e .next)) (rw (ap (λ f. f .0) (m .frame-kept), ap (λ f. f .1) (m .frame-kept), ap (λ f. f .2) (m .frame-kept), ap (λ f. f .3) (m .frame-kept)) (well-sized s w)) (parts-kept s w e))
     (modes-kept 4 s (step s e .next) m (well-moded s w))
   where
     m : Moved 4 s (step s e .next)

@@ -9,11 +9,9 @@ use lib.Dec.{leb, ltb, eqb}
 use borrow.Author.Tests.{lt-ltb, le-ltb, ltb-true, ltb-false, leb-true, leb-false, eqb-true, eqb-false}
 use Rattle.word.specs.Field.{field, bit, put}
 use Rattle.word.proofs.FieldLaws.{put-lt, bit-put-here, bit-put-other}
-use Rattle.model.specs.declared.machine.Shape.{Shape}
-use Rattle.model.specs.declared.set.LevelSet.{LevelSet}
 use Rattle.model.specs.Bounded.{bits}
 use Rattle.model.specs.Hide.{hideSet}
-use Rattle.model.specs.State.{top, isLevel, inSet, levelSet, levelCount}
+use Rattle.model.specs.State.{Shape, LevelSet, top, isLevel, inSet, levelSet, levelCount}
 use Rattle.model.specs.Updates.{withLevel}
 use Rattle.model.proofs.Bools.{and-left}
 use Rattle.model.proofs.Four.{level-low}

@@ -1,13 +1,13 @@
 -- The laws of the definitions and the theorems of specs/Claims.antt. Other crates cite them.
 pub mod Bools  -- tests
-pub mod Bounded  -- tests and searches below a bound
-pub mod Arrays  -- arrays
+pub mod BoundedLaws  -- tests and searches below a bound
+pub mod ArrayLaws  -- arrays
 pub mod Four  -- arrays of four
 pub mod Sets  -- sets as numbers
 pub mod LevelSets  -- sets of levels
-pub mod Answers  -- the answer that an event's conditions give, and demand 1
-pub mod Fresh  -- the fresh machine is well formed
-pub mod Cases  -- the eight proved cases
+pub mod AnswerLaws  -- the answer that an event's conditions give, and demand 1
+pub mod FreshFormed  -- the fresh machine is well formed
+pub mod CasesGiven  -- the eight proved cases
 pub mod Maps  -- the map that sees the place
 pub mod Found  -- what the searches on one processor find
 pub mod Visible  -- hiding and one processor

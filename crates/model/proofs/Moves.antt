@@ -11,28 +11,20 @@ use lib.ListN.{length, getD, set, length-set}
 use lib.Seq.{getD-set-same, getD-set-other}
 use borrow.Author.Tests.{lt-ltb, lt-leb, eq-eqb, eqb-true, eqb-false, ltb-true, ltb-false, leb-true, not-false}
 use Rattle.word.specs.Field.{bit}
-use Rattle.model.specs.declared.event.Event.{Event}
-use Rattle.model.specs.declared.event.Action.the-variants.{Enpart, Envp, Call, Ret, Read, Write, Fetch, Protect, Config, Secure, Flush, Rreg, Wreg, Tpr, Ack, Pstat, Vstat, Caps}
-use Rattle.model.specs.declared.event.Event.the-variants.{Made, Int}
-use Rattle.model.specs.declared.machine.Context.{Context}
-use Rattle.model.specs.declared.machine.Partition.{Partition}
-use Rattle.model.specs.declared.machine.Shape.{Shape}
-use Rattle.model.specs.declared.machine.VirtualProcessor.{VirtualProcessor}
-use Rattle.model.specs.declared.quantity.Access.{Access}
 use Rattle.model.specs.Arrays.{numberAt, stored}
 use Rattle.model.specs.Entry.{recordOf, enter, nextUp, advanced, called, restored, waiting, reentered, left, returned, enters, interrupted, startedContext, started, acknowledged, byCall, byInterrupt}
 use Rattle.model.specs.Events.{configured}
 use Rattle.model.specs.Masks.{readBit, writeBit, turnsOn, defaultMask, protectsIn, protects}
 use Rattle.model.specs.Memory.{needed}
 use Rattle.model.specs.Registers.{rip, cr0, rax, rcx, protectedBit, isPrivate, privateOf, sharedOf}
-use Rattle.model.specs.State.{State, noContext, pastContext, noVp, pastVp, processors, shape, pages, partition, isLevel, isProcessor, vp, context, activeOf, active, enabledAt, enabledOn, configIn, maskIn, maskOf, hostMask, wordOf}
-use Rattle.model.specs.Step.{rule, ruleOf, maker, modeOf, intercepted, nextFor, step}
+use Rattle.model.specs.State.{State, Context, Partition, Shape, VirtualProcessor, Access, noContext, pastContext, noVp, pastVp, processors, shape, pages, partition, isLevel, isProcessor, vp, context, activeOf, active, enabledAt, enabledOn, configIn, maskIn, maskOf, hostMask, wordOf}
+use Rattle.model.specs.Step.{Event, Enpart, Envp, Call, Ret, Read, Write, Fetch, Protect, Config, Secure, Flush, Rreg, Wreg, Tpr, Ack, Pstat, Vstat, Caps, Made, Int, rule, ruleOf, maker, modeOf, intercepted, nextFor, step}
 use Rattle.model.specs.Updates.{withControl, withActive, putContext, setShared, setPrivate, setRegister, setTpr, setPending, setSecure, unlocked, enableLevel, setConfig, setMask, filled, fillMasks, putVp, putPartition, setWord, onVp, onPartition}
 use Rattle.model.specs.WellFormed.{wellModedVp, wellModed, wellFormed}
-use Rattle.model.proofs.Answers.{Passed, step-cases}
-use Rattle.model.proofs.Arrays.{set-cases, stored-cases, number-cases}
+use Rattle.model.proofs.AnswerLaws.{Passed, step-cases}
+use Rattle.model.proofs.ArrayLaws.{set-cases, stored-cases, number-cases}
 use Rattle.model.proofs.Bools.{and-left, and-right, and-not, implied, implies-test, cond-holds}
-use Rattle.model.proofs.Bounded.{every-at, every-all, any-cong}
+use Rattle.model.proofs.BoundedLaws.{every-at, every-all, any-cong}
 use Rattle.model.specs.Hide.{closed, hides}
 use Rattle.model.specs.Hide.{quietMaker}
 use Rattle.model.proofs.Formed.{is-processor, is-level, four-contexts}

@@ -75,6 +75,10 @@ pub bits-four : (f : ℕ → Bool) → cond (f 0) 1 0 + cond (f 1) 2 0 + cond (f
 unfolding bits
 bits-four f = rw zero-add
 
+-- The same where the first is known to fail: level 0 is not in the set.
+pub upper-bits : (f : ℕ → Bool) → f 0 ≡ false → cond false 1 0 + cond (f 1) 2 0 + cond (f 2) 4 0 + cond (f 3) 8 0 ≡ bits 4 f
+upper-bits f h = ap (λ b. cond b 1 0 + cond (f 1) 2 0 + cond (f 2) 4 0 + cond (f 3) 8 0) (sym h) ∙ bits-four f
+
 pub bits-cong : (n : ℕ) (f g : ℕ → Bool) → ((t : ℕ) → t < n → f t ≡ g t) → bits n f ≡ bits n g
 unfolding bits
 bits-cong zero f g h = refl

@@ -1,6 +1,6 @@
 -- A well-formed processor stays so under each update that an event makes of its record.
 -- Assumes nothing.
-use mathlib.Core.Path.{_≡_, refl, sym, ap, _∙_}
+use mathlib.Core.Path.{_≡_, refl, sym, _∙_}
 use mathlib.Core.Bool.{Bool, true, false, not, cond, _&&_, _||_, true≢false}
 use mathlib.Core.List.{List}
 use Prim.Native.Nat.{ℕ, zero, suc, _/_, _%_, _≤_, _<_}
@@ -10,21 +10,17 @@ use lib.ListN.{length, length-set}
 use borrow.Author.Tests.{lt-ltb, ltb-true}
 use Rattle.word.specs.Field.{field, put, bit}
 use Rattle.word.proofs.FieldLaws.{take-put-below, take-put-above, bit-put-below}
-use Rattle.model.specs.declared.machine.Context.{Context}
-use Rattle.model.specs.declared.machine.Control.{Control}
-use Rattle.model.specs.declared.machine.Shape.{Shape}
-use Rattle.model.specs.declared.machine.VirtualProcessor.{VirtualProcessor}
 use Rattle.model.specs.Arrays.{numberAt}
 use Rattle.model.specs.Bounded.{every}
-use Rattle.model.specs.Entry.{recordOf, enter, isReady, highestReady, nextUp, advanced, called, restored, waiting, reentered, left, returned, enters, interrupted, startedContext, started, acknowledged, byCall, byInterrupt}
+use Rattle.model.specs.Entry.{recordOf, enter, isReady, highestReady, nextUp, advanced, called, restored, waiting, reentered, left, returned, enters, interrupted, started, acknowledged, byCall, byInterrupt}
 use Rattle.model.specs.Masks.{secureReservedSet}
 use Rattle.model.specs.Registers.{rip, rax, rcx, isPrivate, sharedOf}
-use Rattle.model.specs.State.{top, isLevel, context, activeOf, enabledAt, isPending, mbecBit, lockBit}
+use Rattle.model.specs.State.{Context, Control, Shape, VirtualProcessor, isLevel, context, activeOf, enabledAt, isPending, mbecBit, lockBit}
 use Rattle.model.specs.Updates.{withSecure, withControl, withActive, putContext, setShared, setPrivate, setRegister, setTpr, setPending, setSecure, cleared, unlocked}
 use Rattle.model.specs.WellFormed.{wellEntered, wellFormedContext}
-use Rattle.model.proofs.Arrays.{number-cases}
-use Rattle.model.proofs.Bools.{and-left, and-right, both, implied, implies-test, hold, all-hold, cond-holds}
-use Rattle.model.proofs.Bounded.{every-at, every-all, highest-found}
+use Rattle.model.proofs.ArrayLaws.{number-cases}
+use Rattle.model.proofs.Bools.{and-left, and-right, and-both, implied, implies-test, hold, all-hold, cond-holds}
+use Rattle.model.proofs.BoundedLaws.{every-at, every-all, highest-found}
 use Rattle.model.proofs.Four.{level-low}
 use Rattle.model.proofs.Moves.{context-cases, put-enabled, started-cases}
 use Rattle.model.proofs.Found.{enabled-level, nextUp-found, waiting-found, advanced-active, unlocked-active}
@@ -91,7 +87,7 @@ sound-more l on on′ enabled mbec mbec′ up up′ c f m u g = record {
 }
   where
     more : (w : ℕ) → allowed mbec w ≡ true → allowed mbec′ w ≡ true
-    more w h = both (not (secureReservedSet w)) _ (and-left (not (secureReservedSet w)) _ h) (implies-test (bit w mbecBit) mbec′ (λ b. m (implied (bit w mbecBit) mbec (and-right (not (secureReservedSet w)) _ h) b)))
+    more w h = and-both (not (secureReservedSet w)) _ (and-left (not (secureReservedSet w)) _ h) (implies-test (bit w mbecBit) mbec′ (λ b. m (implied (bit w mbecBit) mbec (and-right (not (secureReservedSet w)) _ h) b)))
 
 -- One processor. `on` and `mbec` tell what the partition has of each level.
 module _ (z : Shape) (on mbec : ℕ → Bool) where

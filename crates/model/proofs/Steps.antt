@@ -7,17 +7,9 @@ use mathlib.Core.Option.{some}
 use Prim.Native.Nat.{ℕ, zero, suc, _≤_, _<_}
 use native.Mathlib.Omega.{arith}
 use lib.Dec.{leb, ltb, eqb}
-use borrow.Author.Tests.{lt-ltb, le-ltb, lt-leb, ne-eqb, ltb-true, ltb-false, leb-true, leb-false, eqb-true, eqb-false, not-false}
+use borrow.Author.Tests.{lt-ltb, le-ltb, lt-leb, ltb-true, ltb-false, leb-true, leb-false, eqb-true, not-false}
 use Rattle.word.specs.Field.{bit}
-use Rattle.model.specs.declared.answer.Answer.the-variants.{Done, Refused, Intercept}
-use Rattle.model.specs.declared.answer.Refusal.{Refusal}
-use Rattle.model.specs.declared.event.Event.{Event}
-use Rattle.model.specs.declared.event.Action.the-variants.{Enpart, Envp, Call, Ret, Read, Write, Fetch, Protect, Config, Secure, Flush, Rreg, Wreg, Tpr, Ack, Pstat, Vstat, Caps}
-use Rattle.model.specs.declared.event.Event.the-variants.{Made, Int}
-use Rattle.model.specs.declared.machine.Shape.{Shape}
-use Rattle.model.specs.declared.machine.VirtualProcessor.{VirtualProcessor}
-use Rattle.model.specs.declared.quantity.Access.{Access}
-use Rattle.model.specs.declared.quantity.Mode.{Mode}
+use Rattle.model.specs.Answers.{Done, Refused, Intercept, Refusal}
 use Rattle.model.specs.Arrays.{numberAt}
 use Rattle.model.specs.Bounded.{every}
 use Rattle.model.specs.Entry.{enter, highestReady, nextUp, called, returned, interrupted, started, acknowledged, byInterrupt}
@@ -25,13 +17,13 @@ use Rattle.model.specs.Events.{own, configured, locked}
 use Rattle.model.specs.Masks.{validMask, readBit, writeBit, secureReservedSet, protects}
 use Rattle.model.specs.Memory.{needed, mbecOn, deniesIn, denies, denied, receiver, hostDeniesBy, hostDenies}
 use Rattle.model.specs.Registers.{cr0, rflags, rcx, protectedBit, isPrivate, privateOf, sharedOf}
-use Rattle.model.specs.State.{State, level, processors, shape, pages, partition, isProcessor, vp, context, activeOf, active, enabledAt, enabledOn, maskOf, hostMask, secureOf, mbecBit}
-use Rattle.model.specs.Step.{Outcome, rule, ruleOf, maker, modeOf, intercepted, nextFor, ruled, step}
+use Rattle.model.specs.State.{State, Shape, VirtualProcessor, Access, Mode, level, processors, shape, pages, partition, isProcessor, vp, context, activeOf, active, enabledAt, enabledOn, maskOf, hostMask, secureOf, mbecBit}
+use Rattle.model.specs.Step.{Event, Enpart, Envp, Call, Ret, Read, Write, Fetch, Protect, Config, Secure, Flush, Rreg, Wreg, Tpr, Ack, Pstat, Vstat, Caps, Made, Int, Outcome, rule, ruleOf, maker, modeOf, intercepted, nextFor, ruled, step}
 use Rattle.model.specs.Updates.{enableLevel, setMask, setRegister, setTpr, setSecure}
 use Rattle.model.specs.WellFormed.{wellSized, wellFormedContext, wellFormedVp, wellFormedLevel, wellFormedParts, wellModedVp, wellModed, wellFormed}
-use Rattle.model.proofs.Answers.{Passed, Taken, given, condition-cases}
+use Rattle.model.proofs.AnswerLaws.{Passed, Taken, given, condition-cases}
 use Rattle.model.proofs.Bools.{and-left, and-right, and-not, not-and, implied, implies-test, and-cong, positive}
-use Rattle.model.proofs.Bounded.{every-at, every-all, every-cong, any-at, any-none}
+use Rattle.model.proofs.BoundedLaws.{every-at, every-all, every-cong, any-at, any-none}
 use Rattle.model.specs.Hide.{closed, hides, hideContext, hideVp, hidePartition, hide}
 use Rattle.model.specs.Hide.{quietMaker}
 use Rattle.model.specs.MapAt.{mapAt}

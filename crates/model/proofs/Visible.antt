@@ -9,14 +9,10 @@ use lib.Dec.{ltb, eqb}
 use lib.ListN.{length}
 use borrow.Author.Tests.{lt-ltb, lt-leb, ne-eqb, ltb-true, ltb-false, eqb-false}
 use Rattle.word.specs.Field.{put}
-use Rattle.model.specs.declared.machine.Context.{Context}
-use Rattle.model.specs.declared.machine.Shape.{Shape}
-use Rattle.model.specs.declared.machine.VirtualProcessor.{VirtualProcessor}
-use Rattle.model.specs.declared.set.LevelSet.{LevelSet}
 use Rattle.model.specs.Arrays.{numberAt, stored}
 use Rattle.model.specs.Entry.{recordOf, enter, isReady, highestReady, nextUp, advanced, called, restored, waiting, reentered, left, returned, enters, interrupted, startedContext, started, acknowledged, byCall, byInterrupt}
 use Rattle.model.specs.Registers.{rip, cr0, dr6, rax, rcx, isPrivate, privateOf, sharedOf, registerOf}
-use Rattle.model.specs.State.{noContext, pastContext, isLevel, inSet, context, activeOf, enabledAt, secureOf, isPending, lockBit}
+use Rattle.model.specs.State.{Context, Shape, VirtualProcessor, LevelSet, noContext, pastContext, isLevel, inSet, context, activeOf, enabledAt, secureOf, isPending, lockBit}
 use Rattle.model.specs.Updates.{withRegisters, withTpr, withPending, withSecure, withControl, withActive, putContext, setShared, setPrivate, setRegister, setTpr, setPending, setSecure, cleared, unlocked, withLevel}
 use Rattle.model.proofs.Bools.{and-not, or-left, or-right, cond-same, cond-ap, cond-holds}
 use Rattle.model.proofs.LevelSets.{in-hidden, in-here, in-other, with-hidden}

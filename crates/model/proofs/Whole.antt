@@ -8,21 +8,16 @@ use native.Mathlib.Omega.{arith}
 use lib.Dec.{ltb, eqb}
 use lib.ListN.{length, getD}
 use borrow.Author.Tests.{lt-ltb}
-use Rattle.model.specs.declared.machine.Partition.{Partition}
-use Rattle.model.specs.declared.machine.Shape.{Shape}
-use Rattle.model.specs.declared.machine.VirtualProcessor.{VirtualProcessor}
-use Rattle.model.specs.declared.quantity.Access.{Access}
-use Rattle.model.specs.declared.quantity.Mode.{Mode}
 use Rattle.model.specs.Arrays.{numberAt, stored}
 use Rattle.model.specs.Events.{configured}
 use Rattle.model.specs.Masks.{turnsOn, defaultMask, protectsIn, protects}
 use Rattle.model.specs.Memory.{deniesIn}
-use Rattle.model.specs.State.{State, levelSet, noContext, noVp, pastVp, processors, shape, top, maxLevel, pages, partition, isLevel, inSet, isProcessor, isPage, vp, activeOf, active, enabledOn, enabledFor, mbecFor, configIn, configOf, maskIn, maskOf, hostMask, wordOf}
+use Rattle.model.specs.State.{State, Partition, Shape, VirtualProcessor, Access, Mode, levelSet, noContext, noVp, pastVp, processors, shape, top, maxLevel, pages, partition, isLevel, isProcessor, isPage, vp, activeOf, active, enabledOn, enabledFor, mbecFor, configIn, configOf, maskIn, maskOf, hostMask, wordOf}
 use Rattle.model.specs.Updates.{enableLevel, setConfig, putVp, putPartition, setMask, filled, fillMasks, setWord, onVp, onPartition}
 use Rattle.model.proofs.Bools.{and-left, and-right, cond-same, cond-ap}
 use Rattle.model.proofs.Four.{level-low}
 use Rattle.model.proofs.LevelSets.{none-in, none-hidden, in-hidden, with-hidden}
-use Rattle.model.specs.Hide.{closed, hideSet, hideLevel, hideVp, hidePartition, isMask, hideMachine, hide}
+use Rattle.model.specs.Hide.{closed, hideLevel, hideVp, hidePartition, isMask, hideMachine, hide}
 use Rattle.model.specs.MapAt.{mapAt}
 use Rattle.model.proofs.Maps.{mapAt-nil, length-mapAt, getD-mapAt, mapAt-set, mapAt-stored, mapAt-replicate, number-mapAt}
 use Rattle.model.proofs.Visible.{hideContext-none, active-same, enabled-same}
@@ -62,10 +57,6 @@ module _ (K : ℕ) (E : ℕ → ℕ → Bool) (H : ℕ → Bool) where
   pub processor-same : (s : State) (v : ℕ) → isProcessor (hide K E H s) v ≡ isProcessor s v
   unfolding isProcessor
   processor-same s v = rw processors-same
-
-  pub page-same : (s : State) (p : ℕ) → isPage (hide K E H s) p ≡ isPage s p
-  unfolding isPage
-  page-same s p = rw pages-same
 
   pub host-same : (s : State) → hide K E H s .machine .«host_mask» ≡ s .machine .«host_mask»
   unfolding hide hideMachine

@@ -2,9 +2,9 @@
 use mathlib.Core.Bool.{Bool, cond}
 use mathlib.Core.List.{List, [], _∷_}
 use Prim.Native.Nat.{ℕ}
-use Rattle.model.specs.declared.answer.Answer.{Answer}
-use Rattle.model.specs.declared.answer.Answer.the-variants.{Done, Refused, Intercept}
-use Rattle.model.specs.declared.answer.Refusal.{Refusal}
+pub use Rattle.model.specs.declared.answer.Answer.{Answer}
+pub use Rattle.model.specs.declared.answer.Answer.the-variants.{Done, Refused, Intercept}
+pub use Rattle.model.specs.declared.answer.Refusal.{Refusal}
 use Rattle.model.specs.declared.answer.Refusal.the-variants as refusal
 
 -- The number of each refusal. model/src/answer.rt says which condition each is.

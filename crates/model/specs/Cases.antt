@@ -3,16 +3,12 @@
 use mathlib.Core.List.{List, [], _∷_}
 use Prim.Native.Nat.{ℕ, _^_, _-_}
 use lib.ListN.{take}
-use Rattle.model.specs.declared.event.Event.{Event}
-use Rattle.model.specs.declared.event.Action.the-variants.{Enpart, Envp, Call, Ret, Read, Write, Protect, Config, Rreg, Wreg, Pstat, Vstat}
-use Rattle.model.specs.declared.event.Event.the-variants.{Made}
-use Rattle.model.specs.declared.machine.FirstLine.{FirstLine}
 use Rattle.model.specs.declared.quantity.Page.{Page}
 use Rattle.model.specs.declared.quantity.Processor.{Processor}
 use Rattle.model.specs.Answers.{numberOf, valueOf}
 use Rattle.model.specs.Fresh.{fresh}
-use Rattle.model.specs.State.{level}
-use Rattle.model.specs.Step.{step, final}
+use Rattle.model.specs.State.{FirstLine, level}
+use Rattle.model.specs.Step.{Event, Enpart, Envp, Call, Ret, Read, Write, Protect, Config, Rreg, Wreg, Pstat, Vstat, Made, step, final}
 
 -- An event after others, from the fresh machine of the script's first line; and the number and value of its answer.
 pub record Case : Type 0 where

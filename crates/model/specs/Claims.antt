@@ -5,17 +5,13 @@ use mathlib.Core.List.{List, [], _∷_, map}
 use mathlib.Core.Option.{some}
 use Prim.Native.Nat.{ℕ, _≤_, _<_}
 use lib.Dec.{leb, eqb}
-use Rattle.model.specs.declared.answer.Answer.{Answer}
-use Rattle.model.specs.declared.answer.Refusal.{Refusal}
-use Rattle.model.specs.declared.event.Event.{Event}
-use Rattle.model.specs.declared.machine.FirstLine.{FirstLine}
-use Rattle.model.specs.Answers.{numberOf, valueOf, _when_}
+use Rattle.model.specs.Answers.{Answer, Refusal, numberOf, valueOf, _when_}
 use Rattle.model.specs.Cases.{cases, given, expected}
 use Rattle.model.specs.Entry.{enter, byInterrupt}
 use Rattle.model.specs.Fresh.{admissible, fresh}
-use Rattle.model.specs.State.{State, processors, active, enabledOn}
+use Rattle.model.specs.State.{State, FirstLine, processors, active, enabledOn}
 use Rattle.model.specs.Updates.{onVp}
-use Rattle.model.specs.Step.{Outcome, rule, maker, step}
+use Rattle.model.specs.Step.{Event, Outcome, rule, maker, step}
 use Rattle.model.specs.WellFormed.{wellFormed}
 
 -- All conditions on which an event is refused or intercepted.

@@ -4,13 +4,9 @@ use mathlib.Core.List.{_∷_}
 use Prim.Native.Nat.{ℕ, _+_, _/_, _%_, _^_}
 use lib.Dec.{ltb, eqb}
 use lib.ListN.{replicate}
-use Rattle.model.specs.declared.machine.Context.{Context}
-use Rattle.model.specs.declared.machine.Control.{Control}
-use Rattle.model.specs.declared.machine.Shape.{Shape}
-use Rattle.model.specs.declared.machine.VirtualProcessor.{VirtualProcessor}
 use Rattle.model.specs.Bounded.{least, highest}
 use Rattle.model.specs.Registers.{rip, rax, rcx, privateOf, sharedOf}
-use Rattle.model.specs.State.{noLevel, context, activeOf, enabledAt, isPending, noControl}
+use Rattle.model.specs.State.{Context, Control, Shape, VirtualProcessor, noLevel, context, activeOf, enabledAt, isPending, noControl}
 use Rattle.model.specs.Updates.{withControl, withActive, withEnabled, withLevel, putContext, setShared, setPrivate, setPending, unlocked}
 
 -- Reasons: 1 call, 2 interrupt or intercept.

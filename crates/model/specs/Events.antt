@@ -6,20 +6,13 @@ use Prim.Native.Nat.{ℕ}
 use lib.Dec.{leb, ltb, eqb}
 use Rattle.word.specs.Field.{bit}
 use Rattle.word.specs.RegisterLayouts.{packAs, partitionStatus, vpStatus, capabilities}
-use Rattle.model.specs.declared.answer.Answer.{Answer}
-use Rattle.model.specs.declared.answer.Answer.the-variants.{Intercept}
-use Rattle.model.specs.declared.answer.Refusal.{Refusal}
-use Rattle.model.specs.declared.machine.Partition.{Partition}
-use Rattle.model.specs.declared.machine.Shape.{Shape}
-use Rattle.model.specs.declared.quantity.Access.{Access}
-use Rattle.model.specs.declared.quantity.Mode.{Mode}
-use Rattle.model.specs.Answers.{_when_}
+use Rattle.model.specs.Answers.{Answer, Intercept, Refusal, _when_}
 use Rattle.model.specs.Bounded.{any, bits}
 use Rattle.model.specs.Entry.{highestReady, nextUp, called, returned, enters, interrupted, started, acknowledged}
 use Rattle.model.specs.Masks.{validMask, kernelOnly, defaultMask, turnsOn, reservedSet, secureReservedSet, protectsIn, protects}
 use Rattle.model.specs.Memory.{denied, receiver, hostDenies, mbecOn, isUser}
 use Rattle.model.specs.Registers.{cr0, rflags, rcx, protectedBit, interruptBit, privateOf, sharedOf, registerOf}
-use Rattle.model.specs.State.{State, processors, maxLevel, pages, isLevel, shape, vp, context, level, noLevel, activeOf, active, enabledOn, enabledFor, mbecFor, configOf, wordOf, secureOf, mbecBit, lockBit}
+use Rattle.model.specs.State.{State, Partition, Shape, Access, Mode, processors, maxLevel, pages, isLevel, shape, vp, context, level, noLevel, activeOf, active, enabledOn, enabledFor, mbecFor, configOf, wordOf, secureOf, mbecBit, lockBit}
 use Rattle.model.specs.Updates.{enableLevel, setConfig, setMask, fillMasks, setRegister, setTpr, setSecure, setWord, onVp, onPartition}
 
 -- What an event is refused or intercepted for, and its value and next state where it is done.

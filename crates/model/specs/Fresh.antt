@@ -2,12 +2,8 @@
 use mathlib.Core.Bool.{Bool, _&&_}
 use lib.Dec.{leb, eqb}
 use lib.ListN.{replicate}
-use Rattle.model.specs.declared.machine.FirstLine.{FirstLine}
-use Rattle.model.specs.declared.machine.Partition.{Partition}
-use Rattle.model.specs.declared.machine.VirtualProcessor.{VirtualProcessor}
-use Rattle.model.specs.declared.set.LevelSet.{LevelSet}
 use Rattle.model.specs.Masks.{validMask}
-use Rattle.model.specs.State.{State, level, levelSet, inRange, noContext}
+use Rattle.model.specs.State.{State, FirstLine, Partition, VirtualProcessor, LevelSet, level, levelSet, inRange, noContext}
 
 -- Sizes in range, Dr6Shared 0 or 1, and a valid host mask.
 unfoldable pub admissible : FirstLine → Bool

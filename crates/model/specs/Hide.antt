@@ -5,16 +5,10 @@ use mathlib.Core.Option.{Option, none, some}
 use Prim.Native.Nat.{ℕ, _/_, _%_}
 use lib.Dec.{leb, ltb, eqb}
 use Rattle.word.specs.Field.{bit}
-use Rattle.model.specs.declared.machine.Context.{Context}
-use Rattle.model.specs.declared.machine.Machine.{Machine}
-use Rattle.model.specs.declared.machine.Partition.{Partition}
-use Rattle.model.specs.declared.machine.Shape.{Shape}
-use Rattle.model.specs.declared.machine.VirtualProcessor.{VirtualProcessor}
-use Rattle.model.specs.declared.set.LevelSet.{LevelSet}
 use Rattle.model.specs.Bounded.{any, bits}
 use Rattle.model.specs.Masks.{readBit, protects}
 use Rattle.model.specs.Registers.{cr0, isPrivate}
-use Rattle.model.specs.State.{State, levelSet, noControl, noContext, noVp, processors, active, inSet, isLevel, isProcessor, isPage, shape, maskOf, hostMask}
+use Rattle.model.specs.State.{State, Context, Machine, Partition, Shape, VirtualProcessor, LevelSet, levelSet, noControl, noContext, noVp, processors, active, inSet, isLevel, isProcessor, isPage, shape, maskOf, hostMask}
 use Rattle.model.specs.MapAt.{mapAt}
 
 -- Words of a page where the host mask, or the page's mask of a level from K up with protections on, lacks Read.

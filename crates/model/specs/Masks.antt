@@ -6,8 +6,7 @@ use Rattle.word.specs.Field.{bit}
 use Rattle.word.specs.Layout.{reservedClear}
 use Rattle.word.specs.RegisterLayouts.{partitionConfig, secureConfig, unpackAs}
 use mathlib.Core.List.{List}
-use Rattle.model.specs.declared.machine.Shape.{Shape}
-use Rattle.model.specs.State.{State, shape, partition, configIn}
+use Rattle.model.specs.State.{State, Shape, shape, partition, configIn}
 
 -- A mask has Read 1, Write 2, KMX 4, UMX 8.
 abbrev pub readBit : ℕ

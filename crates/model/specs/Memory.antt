@@ -3,13 +3,9 @@ use mathlib.Core.Bool.{Bool, true, false, not, cond, _&&_}
 use Prim.Native.Nat.{ℕ}
 use lib.Dec.{ltb}
 use Rattle.word.specs.Field.{bit}
-use Rattle.model.specs.declared.machine.Partition.{Partition}
-use Rattle.model.specs.declared.machine.Shape.{Shape}
-use Rattle.model.specs.declared.quantity.Access.{Access}
-use Rattle.model.specs.declared.quantity.Mode.{Mode}
 use Rattle.model.specs.Bounded.{any, least}
 use Rattle.model.specs.Masks.{readBit, writeBit, kmxBit, umxBit, protectsIn}
-use Rattle.model.specs.State.{State, noLevel, shape, pages, partition, vp, active, enabledOn, maskIn, hostMask, secureOf, mbecBit}
+use Rattle.model.specs.State.{State, Partition, Shape, Access, Mode, noLevel, shape, pages, partition, vp, active, enabledOn, maskIn, hostMask, secureOf, mbecBit}
 
 -- Mode 0 is kernel, 1 user.
 unfoldable pub isUser : Mode → Bool

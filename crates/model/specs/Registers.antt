@@ -2,10 +2,8 @@
 use mathlib.Core.Bool.{Bool, not, cond, _&&_, _||_}
 use Prim.Native.Nat.{ℕ, _-_}
 use lib.Dec.{ltb, eqb}
-use Rattle.model.specs.declared.machine.Shape.{Shape}
-use Rattle.model.specs.declared.machine.VirtualProcessor.{VirtualProcessor}
 use Rattle.model.specs.Arrays.{numberAt}
-use Rattle.model.specs.State.{context}
+use Rattle.model.specs.State.{Shape, VirtualProcessor, context}
 
 -- The registers that a rule names.
 abbrev pub rip : ℕ

@@ -1,20 +1,23 @@
 -- The state, and what can be read of it (01, "The bench model"). A reading beyond the processors V, the maximum level M or
 -- the pages P gives the empty record or 0: what lies there is no part of a state. Nor is level 0's control record, its
 -- configuration word or its masks, or DR6 in the place that Dr6Shared leaves unused. Assumes nothing.
-use mathlib.Core.Bool.{Bool, false, cond, _&&_}
+use mathlib.Core.Bool.{Bool, cond, _&&_}
 use mathlib.Core.List.{List, [], _∷_}
 use Prim.Native.Nat.{ℕ, _+_, _*_, _/_, _%_}
-use lib.Dec.{leb, ltb, eqb}
+use lib.Dec.{leb, ltb}
 use lib.ListN.{getD, replicate}
 use Rattle.word.specs.Field.{bit}
-use Rattle.model.specs.declared.machine.Context.{Context}
-use Rattle.model.specs.declared.machine.Control.{Control}
-use Rattle.model.specs.declared.machine.Machine.{Machine}
-use Rattle.model.specs.declared.machine.Partition.{Partition}
-use Rattle.model.specs.declared.machine.Shape.{Shape}
-use Rattle.model.specs.declared.machine.VirtualProcessor.{VirtualProcessor}
-use Rattle.model.specs.declared.quantity.Level.{Level}
-use Rattle.model.specs.declared.set.LevelSet.{LevelSet}
+pub use Rattle.model.specs.declared.machine.Context.{Context}
+pub use Rattle.model.specs.declared.machine.Control.{Control}
+pub use Rattle.model.specs.declared.machine.Machine.{Machine}
+pub use Rattle.model.specs.declared.machine.Partition.{Partition}
+pub use Rattle.model.specs.declared.machine.Shape.{Shape}
+pub use Rattle.model.specs.declared.machine.VirtualProcessor.{VirtualProcessor}
+pub use Rattle.model.specs.declared.quantity.Level.{Level}
+pub use Rattle.model.specs.declared.set.LevelSet.{LevelSet}
+pub use Rattle.model.specs.declared.quantity.Mode.{Mode}
+pub use Rattle.model.specs.declared.quantity.Access.{Access}
+pub use Rattle.model.specs.declared.machine.FirstLine.{FirstLine}
 use Rattle.model.specs.Arrays.{numberAt}
 use Rattle.model.specs.Bounded.{allOf}
 

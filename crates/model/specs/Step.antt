@@ -4,18 +4,14 @@ use mathlib.Core.List.{List, [], _∷_}
 use mathlib.Core.Option.{Option, none, some}
 use Prim.Native.Nat.{ℕ}
 use lib.Dec.{leb, ltb, eqb}
-use Rattle.model.specs.declared.answer.Answer.{Answer}
-use Rattle.model.specs.declared.answer.Answer.the-variants.{Done, Refused, Intercept}
-use Rattle.model.specs.declared.answer.Refusal.{Refusal}
-use Rattle.model.specs.declared.event.Action.{Action}
-use Rattle.model.specs.declared.event.Action.the-variants.{Enpart, Envp, Call, Ret, Read, Write, Fetch, Protect, Config, Secure, Flush, Rreg, Wreg, Tpr, Ack, Pstat, Vstat, Caps}
-use Rattle.model.specs.declared.event.Event.{Event}
-use Rattle.model.specs.declared.event.Event.the-variants.{Made, Int}
-use Rattle.model.specs.declared.quantity.Mode.{Mode}
-use Rattle.model.specs.Answers.{_when_, firstOf}
+pub use Rattle.model.specs.declared.event.Action.{Action}
+pub use Rattle.model.specs.declared.event.Action.the-variants.{Enpart, Envp, Call, Ret, Read, Write, Fetch, Protect, Config, Secure, Flush, Rreg, Wreg, Tpr, Ack, Pstat, Vstat, Caps}
+pub use Rattle.model.specs.declared.event.Event.{Event}
+pub use Rattle.model.specs.declared.event.Event.the-variants.{Made, Int}
+use Rattle.model.specs.Answers.{Answer, Done, Refused, Intercept, Refusal, _when_, firstOf}
 use Rattle.model.specs.Entry.{enter, byInterrupt}
 use Rattle.model.specs.Events.{Rule, enpart, envp, call, ret, read, write, fetch, protect, config, secure, flush, rreg, wreg, tpr, ack, int, pstat, vstat, caps}
-use Rattle.model.specs.State.{State, processors}
+use Rattle.model.specs.State.{State, Mode, processors}
 use Rattle.model.specs.Updates.{onVp}
 use Rattle.model.specs.WellFormed.{wellFormed}
 

@@ -6,16 +6,9 @@ use Prim.Native.Nat.{ℕ, zero, suc, _+_, _-_, _*_, _/_, _%_}
 use lib.Dec.{ltb}
 use lib.ListN.{set}
 use Rattle.word.specs.Field.{put}
-use Rattle.model.specs.declared.machine.Context.{Context}
-use Rattle.model.specs.declared.machine.Control.{Control}
-use Rattle.model.specs.declared.machine.Machine.{Machine}
-use Rattle.model.specs.declared.machine.Partition.{Partition}
-use Rattle.model.specs.declared.machine.Shape.{Shape}
-use Rattle.model.specs.declared.machine.VirtualProcessor.{VirtualProcessor}
-use Rattle.model.specs.declared.set.LevelSet.{LevelSet}
 use Rattle.model.specs.Arrays.{numberAt, stored}
 use Rattle.model.specs.Registers.{dr6, isPrivate}
-use Rattle.model.specs.State.{State, level, levelSet, shape, pages, partition, isLevel, vp, context, lockBit}
+use Rattle.model.specs.State.{State, Context, Control, Machine, Partition, Shape, VirtualProcessor, LevelSet, level, levelSet, shape, pages, partition, isLevel, vp, context, lockBit}
 
 -- A context with one field changed.
 abbrev pub withRegisters : Context → List ℕ → Context

@@ -5,16 +5,11 @@ use Prim.Native.Nat.{ℕ, suc}
 use lib.Dec.{leb, ltb, eqb}
 use lib.ListN.{length}
 use Rattle.word.specs.Field.{field, bit}
-use Rattle.model.specs.declared.machine.Context.{Context}
-use Rattle.model.specs.declared.machine.Control.{Control}
-use Rattle.model.specs.declared.machine.Partition.{Partition}
-use Rattle.model.specs.declared.machine.Shape.{Shape}
-use Rattle.model.specs.declared.machine.VirtualProcessor.{VirtualProcessor}
 use Rattle.model.specs.Arrays.{numberAt}
 use Rattle.model.specs.Bounded.{every, allOf}
 use Rattle.model.specs.Masks.{validMask, kernelOnly, defaultMask, turnsOn, reservedSet, secureReservedSet}
 use Rattle.model.specs.Registers.{cr0, protectedBit, privateOf}
-use Rattle.model.specs.State.{State, inRange, processors, maxLevel, pages, partition, inSet, isProcessor, shape, vp, context, activeOf, enabledAt, enabledFor, mbecFor, configOf, maskOf, mbecBit}
+use Rattle.model.specs.State.{State, Context, Control, Partition, Shape, VirtualProcessor, inRange, processors, maxLevel, pages, partition, inSet, isProcessor, shape, vp, context, activeOf, enabledAt, enabledFor, mbecFor, configOf, maskOf, mbecBit}
 
 -- If a then b.
 infix 20 _implies_
@@ -48,8 +43,8 @@ wellFormedContext l on enabled mbec fromOn c = allOf (
     ∷ (enabled || every 4 (λ i. eqb (numberAt 4 (c .pending) i) 0))
     ∷ [])
 
--- A processor, where the partition holds x: level 0 is enabled everywhere; the active level is enabled. (That an array of four has four entries holds of all that code
--- lends; a list here may have any number of them.)
+-- A processor, where the partition holds x: level 0 is enabled everywhere; the active level is enabled. (That an array of four
+-- has four entries holds of all that code lends; a list here may have any number of them.)
 unfoldable pub wellFormedVp : Shape → Partition → VirtualProcessor → Bool
 wellFormedVp z x p = allOf (
     eqb (length (p .contexts)) 4
@@ -59,9 +54,9 @@ wellFormedVp z x p = allOf (
     wellFormedContext l (inSet z (x .enabled) l) (enabledAt z p l) (inSet z (x .mbec) l) (enabledAt z p (c .control .from .0)) c)
     ∷ [])
 
--- What the partition holds of level l above 0, its masks, its word, whether it is enabled and whether it has MBEC: all masks valid, the default mask too; reserved configuration bits 0;
--- protections and MBEC only for enabled levels; no page or default mask with KMX and no UMX where the partition has MBEC for the
--- level and protections are on.
+-- What the partition holds of a level above 0 (its masks, its word, whether it is enabled and whether it has MBEC): all masks
+-- valid, the default mask too; reserved configuration bits 0; protections and MBEC only for enabled levels; no page or default
+-- mask with KMX and no UMX where the partition has MBEC for the level and protections are on.
 abbrev pub wellFormedLevelBy : (ℕ → ℕ) → ℕ → Bool → Bool → Bool
 wellFormedLevelBy mask word enabled mbec = allOf (
     every 64 (λ p. validMask (mask p))

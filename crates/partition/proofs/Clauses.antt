@@ -4,7 +4,7 @@ use mathlib.Core.Path.{_≡_, sym, ap, _∙_}
 use mathlib.Core.Bool.{Bool, true, false, not, _&&_, and-true, and-false, and-assoc, or-true, or-and-distrib-left}
 use mathlib.Core.List.{[], _∷_}
 use Prim.Native.Nat.{ℕ, zero, suc}
-use Rattle.model.proofs.Bounded.{every-and}
+use Rattle.model.proofs.BoundedLaws.{every-and}
 use Rattle.model.specs.Bounded.{every, allOf}
 use Rattle.model.specs.Masks.{validMask, kernelOnly}
 use Rattle.model.specs.WellFormed.{_implies_}

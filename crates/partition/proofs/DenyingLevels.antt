@@ -5,7 +5,7 @@ use Prim.Native.Nat.{ℕ, _+_, _<_}
 use native.Mathlib.Omega.{arith}
 use lib.Dec.{eqb}
 use borrow.Author.Tests.{le-ltb}
-use Rattle.model.proofs.Sets.{bit-bits, any-bits, bits-four, bits-cong, least-cong}
+use Rattle.model.proofs.Sets.{bit-bits, any-bits, upper-bits, bits-cong, least-cong}
 use Rattle.model.specs.declared.machine.Partition.{Partition}
 use Rattle.model.specs.declared.machine.Shape.{Shape}
 use Rattle.model.specs.declared.quantity.Access.{Access}
@@ -29,7 +29,7 @@ module _ (z : Shape) (P : ℕ) (x : Partition) (mbecs : LevelSet) (a : Attempt) 
 
   pub denying-three : cond false 1 0 + cond (at 1) 2 0 + cond (at 2) 4 0 + cond (at 3) 8 0 ≡ denyingSet z P x mbecs a
   unfolding denyingSet
-  denying-three = ap (λ b. cond b 1 0 + cond (at 1) 2 0 + cond (at 2) 4 0 + cond (at 3) 8 0) (sym none-at-zero) ∙ bits-four at
+  denying-three = upper-bits at none-at-zero
 
 -- The levels for which MBEC is on with the active level of processor v, and an attempt of that level.
 abbrev pub mbecsOn : State → ℕ → ℕ

@@ -1,6 +1,6 @@
 -- What the partition holds in six words: what is read from them, what they stand for after a store, and that no two arrays of six
 -- words stand for one record. Assumes nothing.
-use mathlib.Core.Path.{_≡_, refl, sym, ap, _∙_}
+use mathlib.Core.Path.{_≡_, sym, ap, _∙_}
 use mathlib.Core.Bool.{Bool, true, cond, _&&_, and-true, and-false}
 use mathlib.Core.List.{List}
 use Prim.Native.Nat.{ℕ, zero, suc, _+_, _≤_, _<_}
@@ -9,7 +9,7 @@ use lib.ListN.{getD, length, length-set, set}
 use lib.Seq.{getD-set-same, getD-set-other, ext-getD}
 use lib.Dec.{leb, ltb}
 use borrow.Author.Tests.{lt-ltb, le-ltb}
-use Rattle.model.proofs.Four.{four, four-at, four-set}
+use Rattle.model.proofs.Four.{four-at, four-set}
 use Rattle.model.specs.declared.machine.Shape.{Shape}
 use Rattle.model.specs.declared.set.LevelSet.{LevelSet}
 use Rattle.model.specs.Arrays.{numberAt, stored}

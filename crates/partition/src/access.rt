@@ -77,7 +77,8 @@ pub fn denying_set(
     mbecs: LevelSet,
     attempt: Attempt,
 ) -> LevelSet
-    ensures { λ r. ⌜ r .0 ≡ denyingSet shape pages (partitionOf (now (levels .entry)) (now (masks .entry))) mbecs attempt ⌝ }
+    ensures { λ r. ⌜ r .0
+        ≡ denyingSet shape pages (partitionOf (now (levels .entry)) (now (masks .entry))) mbecs attempt ⌝ }
 {
     let first = denies(
         shape,

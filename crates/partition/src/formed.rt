@@ -47,7 +47,8 @@ fn masks_pass(shape: Shape, pages: u64, masks: &Masks, level: Level, strict: boo
 fn well_formed_level(shape: Shape, pages: u64, levels: &Levels, masks: &Masks, level: Level) -> bool
     ensures { λ r. ⌜ r ≡ wellFormedLevelBy (maskIn shape pages (now (masks .entry)) (level .0))
         (configIn shape (configsIn (now (levels .entry))) (level .0))
-        (inSet shape (enabledIn (now (levels .entry))) (level .0)) (inSet shape (mbecIn (now (levels .entry))) (level .0)) ⌝ }
+        (inSet shape (enabledIn (now (levels .entry))) (level .0))
+        (inSet shape (mbecIn (now (levels .entry))) (level .0)) ⌝ }
 {
     let enabled = enabled_for(shape, levels, level);
     let mbec = mbec_for(shape, levels, level);
@@ -65,7 +66,8 @@ fn well_formed_level(shape: Shape, pages: u64, levels: &Levels, masks: &Masks, l
 pub fn well_formed_levels(shape: Shape, pages: u64, levels: &Levels, masks: &Masks) -> bool
     ensures { λ r. ⌜ r ≡ every 3 (λ i. wellFormedLevelBy (maskIn shape pages (now (masks .entry)) (suc i))
         (configIn shape (configsIn (now (levels .entry))) (suc i))
-        (inSet shape (enabledIn (now (levels .entry))) (suc i)) (inSet shape (mbecIn (now (levels .entry))) (suc i))) ⌝ }
+        (inSet shape (enabledIn (now (levels .entry))) (suc i))
+        (inSet shape (mbecIn (now (levels .entry))) (suc i))) ⌝ }
 {
     let first = well_formed_level(shape, pages, levels, masks, Level(1));
     let second = well_formed_level(shape, pages, levels, masks, Level(2));

@@ -11,10 +11,8 @@ ghost use Rattle.partition.specs.PartitionView.{enabledIn, mbecIn, confi
 use crate::config::turns_on;
 use model::machine::Shape;
 use model::quantity::Level;
+use model::set;
 use model::set::LevelSet;
-use model::set::member;
-use model::set::members;
-use model::set::with_level;
 
 // The sets and the configuration words: specs/PartitionView.antt says what each word holds.
 pub type Levels = [u64; 6];
@@ -30,28 +28,28 @@ const CONFIGS: u64 = 2;
 pub fn enabled_for(shape: Shape, levels: &Levels, level: Level) -> bool
     ensures { λ r. ⌜ r ≡ inSet shape (enabledIn (now (levels .entry))) (level .0) ⌝ }
 {
-    member(shape, LevelSet(levels[ENABLED]), level)
+    set::member(shape, LevelSet(levels[ENABLED]), level)
 }
 
 // Has the partition MBEC for a level?
 pub fn mbec_for(shape: Shape, levels: &Levels, level: Level) -> bool
     ensures { λ r. ⌜ r ≡ inSet shape (mbecIn (now (levels .entry))) (level .0) ⌝ }
 {
-    member(shape, LevelSet(levels[MBEC]), level)
+    set::member(shape, LevelSet(levels[MBEC]), level)
 }
 
 // The levels that are enabled for the partition.
 pub fn enabled_levels(shape: Shape, levels: &Levels) -> LevelSet
     ensures { λ r. ⌜ r .0 ≡ bits 4 (λ l. inSet shape (enabledIn (now (levels .entry))) l) ⌝ }
 {
-    members(shape, LevelSet(levels[ENABLED]))
+    set::members(shape, LevelSet(levels[ENABLED]))
 }
 
 // The levels that the partition has MBEC for.
 pub fn mbec_levels(shape: Shape, levels: &Levels) -> LevelSet
     ensures { λ r. ⌜ r .0 ≡ bits 4 (λ l. inSet shape (mbecIn (now (levels .entry))) l) ⌝ }
 {
-    members(shape, LevelSet(levels[MBEC]))
+    set::members(shape, LevelSet(levels[MBEC]))
 }
 
 // The configuration word of a level.
@@ -86,8 +84,8 @@ pub fn enable_level(shape: Shape, levels: &mut Levels, level: Level, mbec: bool)
         ≡ enableLevel shape (partitionOf (now (levels .entry)) masks) (level .0) mbec) ⌝ }
 {
     let words: &mut [u64] = levels;
-    let enabled = with_level(shape, LevelSet(words[ENABLED]), level, true);
-    let with_mbec = with_level(shape, LevelSet(words[MBEC]), level, mbec);
+    let enabled = set::with_level(shape, LevelSet(words[ENABLED]), level, true);
+    let with_mbec = set::with_level(shape, LevelSet(words[MBEC]), level, mbec);
     words[ENABLED] = enabled.0;
     words[MBEC] = with_mbec.0;
 }

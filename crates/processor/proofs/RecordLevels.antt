@@ -1,21 +1,17 @@
 -- Sets of levels above 0, level by level: the levels that hold MBEC or a TLB lock for a lower one (01, the events secure, flush
 -- and vstat). Assumes nothing.
-use mathlib.Core.Path.{_≡_, sym, ap, _∙_}
-use mathlib.Core.Bool.{Bool, false, cond, _||_}
-use Prim.Native.Nat.{ℕ, _+_}
+use mathlib.Core.Path.{_≡_}
+use mathlib.Core.Bool.{Bool, false, _||_}
+use Prim.Native.Nat.{ℕ}
 use native.Mathlib.Omega.{arith}
 use borrow.Author.Tests.{le-ltb}
 use Rattle.word.specs.Field.{bit}
 use Rattle.model.specs.declared.machine.Shape.{Shape}
 use Rattle.model.specs.declared.machine.VirtualProcessor.{VirtualProcessor}
-use Rattle.model.proofs.Sets.{bits-four}
-use Rattle.model.specs.Bounded.{bits, any}
+use Rattle.model.specs.Bounded.{any}
 use Rattle.model.specs.State.{secureOf}
 
 -- Level 0 is not in the set.
-pub upper-bits : (f : ℕ → Bool) → f 0 ≡ false → cond false 1 0 + cond (f 1) 2 0 + cond (f 2) 4 0 + cond (f 3) 8 0 ≡ bits 4 f
-upper-bits f h = ap (λ b. cond b 1 0 + cond (f 1) 2 0 + cond (f 2) 4 0 + cond (f 3) 8 0) (sym h) ∙ bits-four f
-
 pub upper-any : (f : ℕ → Bool) → f 0 ≡ false → (f 1 || f 2 || f 3) ≡ any 4 f
 unfolding any
 upper-any f h = rw h

@@ -2,16 +2,16 @@
 -- pending vectors, secure words and control records (01, "The bench model"). Assumes nothing.
 use mathlib.Core.Path.{_≡_, refl, _∙_}
 use mathlib.Core.List.{List}
-use Prim.Native.Nat.{ℕ, zero, suc, _+_, _≤_, _<_}
+use Prim.Native.Nat.{ℕ, _+_, _≤_, _<_}
 use native.Mathlib.Omega.{arith}
 use lib.ListN.{getD, replicate, length, getD-replicate}
 use borrow.Author.Tests.{lt-ltb, lt-leb, ne-eqb}
-use mathlib.Core.Bool.{Bool}
 use Rattle.word.specs.Field.{put}
 use Rattle.model.specs.declared.machine.Context.{Context}
 use Rattle.model.specs.declared.machine.Control.{Control}
 use Rattle.model.specs.declared.machine.Shape.{Shape}
 use Rattle.model.specs.declared.machine.VirtualProcessor.{VirtualProcessor}
+use Rattle.model.proofs.Four.{below-four}
 use Rattle.model.specs.Arrays.{numberAt, stored}
 use Rattle.model.specs.Registers.{privateOf}
 use Rattle.model.specs.State.{context, noContext, lockBit}
@@ -54,14 +54,6 @@ module _ (z : Shape) (ws : List ℕ) (l : ℕ) where
       let rax = c ∙ field-read (λ c. c .control .rax) 24 (omega arith) refl (λ row. refl) z ws l in
       let rcx = d ∙ field-read (λ c. c .control .rcx) 25 (omega arith) refl (λ row. refl) z ws l in
       λ i. record { reason = reason i; from = record { 0 = from i }; rax = rax i; rcx = rcx i }
-
--- What holds of the numbers 0 to 3 holds of a number below 4.
-below-four : (P : ℕ → Type 0) → P 0 → P 1 → P 2 → P 3 → (i : ℕ) → i < 4 → P i
-below-four P a b c d zero h = a
-below-four P a b c d (suc zero) h = b
-below-four P a b c d (suc (suc zero)) h = c
-below-four P a b c d (suc (suc (suc zero))) h = d
-below-four P a b c d (suc (suc (suc (suc i)))) h = absurd (omega arith)
 
 -- A word that is stored: which field of the context it is.
 module _ (z : Shape) (p : VirtualProcessor) (l : ℕ) where

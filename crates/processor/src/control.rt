@@ -6,24 +6,12 @@ ghost use lib.ListN.{length};
 ghost use Rattle.model.specs.Entry.{started};
 ghost use Rattle.model.specs.State.{context};
 ghost use Rattle.processor.specs.Record.{Within, recordWords, levelEnabled, rowOf, vpOf, controlSet, startedRow};
-use crate::record::ENABLED;
-use crate::record::FROM;
-use crate::record::LEVEL_WORDS;
-use crate::record::LEVELS;
-use crate::record::REASON;
+use crate::record;
 use crate::record::Record;
-use crate::record::SAVED_RAX;
-use crate::record::SAVED_RCX;
-use crate::record::SECURE;
-use crate::record::level_word;
-use crate::record::set_level_word;
-use crate::record::with_bit;
 use model::machine::Control;
 use model::machine::Shape;
 use model::quantity::Level;
-use model::register::CR0;
-use model::register::RIP;
-use model::register::RSP;
+use model::register;
 use model::set::is_level;
 
 // Where a level starts: what envp gives of 001's HV_INITIAL_VP_CONTEXT.
@@ -34,17 +22,17 @@ pub struct InitialContext {
 }
 
 // The row of words of a level.
-type Row = [u64; LEVEL_WORDS as usize];
+type Row = [u64; record::LEVEL_WORDS as usize];
 
 // The control record of a level; the empty one beyond M.
 pub fn control_of(shape: Shape, vp: &Record, level: Level) -> Control
     ensures { λ r. ⌜ r ≡ context shape (vpOf (now (vp .entry))) (level .0) .control ⌝ }
 {
     Control {
-        reason: level_word(shape, vp, level, REASON),
-        from: Level(level_word(shape, vp, level, FROM)),
-        rax: level_word(shape, vp, level, SAVED_RAX),
-        rcx: level_word(shape, vp, level, SAVED_RCX),
+        reason: record::level_word(shape, vp, level, record::REASON),
+        from: Level(record::level_word(shape, vp, level, record::FROM)),
+        rax: record::level_word(shape, vp, level, record::SAVED_RAX),
+        rcx: record::level_word(shape, vp, level, record::SAVED_RCX),
     }
 }
 
@@ -52,10 +40,10 @@ pub fn control_of(shape: Shape, vp: &Record, level: Level) -> Control
 pub fn set_control(shape: Shape, vp: &mut Record, level: Level, control: Control)
     ensures { λ _. ⌜ vpOf (now (vp .exit)) ≡ controlSet shape (vpOf (now (vp .entry))) (level .0) control ⌝ }
 {
-    set_level_word(shape, vp, level, REASON, control.reason);
-    set_level_word(shape, vp, level, FROM, control.from.0);
-    set_level_word(shape, vp, level, SAVED_RAX, control.rax);
-    set_level_word(shape, vp, level, SAVED_RCX, control.rcx);
+    record::set_level_word(shape, vp, level, record::REASON, control.reason);
+    record::set_level_word(shape, vp, level, record::FROM, control.from.0);
+    record::set_level_word(shape, vp, level, record::SAVED_RAX, control.rax);
+    record::set_level_word(shape, vp, level, record::SAVED_RCX, control.rcx);
 }
 
 // Puts a row of words into the place of a level's.
@@ -66,9 +54,9 @@ fn set_row(vp: &mut Record, level: Level, row: Row)
 {
     let words: &mut [u64] = vp;
     let number = level.0;
-    let start = (LEVELS + LEVEL_WORDS * number) as usize;
+    let start = (record::LEVELS + record::LEVEL_WORDS * number) as usize;
     let mut offset: usize = 0;
-    while offset < LEVEL_WORDS as usize {
+    while offset < record::LEVEL_WORDS as usize {
         words[start + offset] = row[offset];
         offset += 1;
     }
@@ -81,21 +69,21 @@ fn enable(vp: &mut Record, level: Level)
     ensures size { λ _. ⌜ length (now (vp .entry)) ≡ recordWords ⌝ }
 {
     let words: &mut [u64] = vp;
-    words[ENABLED] = with_bit(words[ENABLED], level.0, 1);
+    words[record::ENABLED] = record::with_bit(words[record::ENABLED], level.0, 1);
 }
 
 // The row of a level that starts: RIP, RSP and CR0 as given, the configuration of lower levels as it was, and 0 elsewhere.
 fn started_row(initial: InitialContext, zero: u64, one: u64, two: u64, three: u64) -> Row
     ensures { λ r. ⌜ r ≡ startedRow (initial .rip) (initial .rsp) (initial .cr0) zero one two three ⌝ }
 {
-    let mut row = [0; LEVEL_WORDS as usize];
-    row[RIP as usize] = initial.rip;
-    row[RSP as usize] = initial.rsp;
-    row[CR0 as usize] = initial.cr0;
-    row[SECURE as usize] = zero;
-    row[SECURE as usize + 1] = one;
-    row[SECURE as usize + 2] = two;
-    row[SECURE as usize + 3] = three;
+    let mut row = [0; record::LEVEL_WORDS as usize];
+    row[register::RIP as usize] = initial.rip;
+    row[register::RSP as usize] = initial.rsp;
+    row[register::CR0 as usize] = initial.cr0;
+    row[record::SECURE as usize] = zero;
+    row[record::SECURE as usize + 1] = one;
+    row[record::SECURE as usize + 2] = two;
+    row[record::SECURE as usize + 3] = three;
     row
 }
 
@@ -108,10 +96,10 @@ pub fn start(shape: Shape, vp: &mut Record, target: Level, initial: InitialConte
     if is_level(shape, target) {
         let row = started_row(
             initial,
-            level_word(shape, vp, target, SECURE),
-            level_word(shape, vp, target, SECURE + 1),
-            level_word(shape, vp, target, SECURE + 2),
-            level_word(shape, vp, target, SECURE + 3),
+            record::level_word(shape, vp, target, record::SECURE),
+            record::level_word(shape, vp, target, record::SECURE + 1),
+            record::level_word(shape, vp, target, record::SECURE + 2),
+            record::level_word(shape, vp, target, record::SECURE + 3),
         );
         set_row(vp, target, row);
         enable(vp, target);

@@ -5,13 +5,8 @@ ghost use Rattle.model.specs.Entry.{isReady, highestReady, enters};
 ghost use Rattle.model.specs.State.{context};
 ghost use Rattle.model.specs.Updates.{setPending, setTpr};
 ghost use Rattle.processor.specs.Record.{vpOf, vectorsOf};
-use crate::record::PENDING;
+use crate::record;
 use crate::record::Record;
-use crate::record::TPR;
-use crate::record::active_of;
-use crate::record::level_word;
-use crate::record::set_level_bit;
-use crate::record::set_level_word;
 use model::machine::Shape;
 use model::quantity::Level;
 use word::field::has_bit;
@@ -30,7 +25,7 @@ const PENDING_WORDS: u64 = 4;
 pub fn is_ready(shape: Shape, vp: &Record, level: Level, vector: u64) -> bool
     ensures { λ r. ⌜ r ≡ isReady (context shape (vpOf (now (vp .entry))) (level .0)) vector ⌝ }
 {
-    level_word(shape, vp, level, TPR) < vector / CLASS_VECTORS
+    record::level_word(shape, vp, level, record::TPR) < vector / CLASS_VECTORS
 }
 
 // The highest vector that is pending and ready; 0 if none is. Words and classes with nothing pending are passed over whole.
@@ -66,11 +61,11 @@ fn highest_in(tpr: u64, pending: [u64; PENDING_WORDS as usize]) -> u64
 pub fn highest_ready(shape: Shape, vp: &Record, level: Level) -> u64
     ensures { λ r. ⌜ r ≡ highestReady (context shape (vpOf (now (vp .entry))) (level .0)) ⌝ }
 {
-    let tpr = level_word(shape, vp, level, TPR);
-    let zero = level_word(shape, vp, level, PENDING);
-    let one = level_word(shape, vp, level, PENDING + 1);
-    let two = level_word(shape, vp, level, PENDING + 2);
-    let three = level_word(shape, vp, level, PENDING + 3);
+    let tpr = record::level_word(shape, vp, level, record::TPR);
+    let zero = record::level_word(shape, vp, level, record::PENDING);
+    let one = record::level_word(shape, vp, level, record::PENDING + 1);
+    let two = record::level_word(shape, vp, level, record::PENDING + 2);
+    let three = record::level_word(shape, vp, level, record::PENDING + 3);
     highest_in(tpr, [zero, one, two, three])
 }
 
@@ -82,14 +77,14 @@ pub fn set_pending(shape: Shape, vp: &mut Record, level: Level, vector: u64, val
     if word >= PENDING_WORDS {
         return;
     }
-    set_level_bit(shape, vp, level, PENDING + word, vector, value);
+    record::set_level_bit(shape, vp, level, record::PENDING + word, vector, value);
 }
 
 // tpr: sets the class of a level.
 pub fn set_tpr(shape: Shape, vp: &mut Record, level: Level, class: u64)
     ensures { λ _. ⌜ vpOf (now (vp .exit)) ≡ setTpr shape (vpOf (now (vp .entry))) (level .0) class ⌝ }
 {
-    set_level_word(shape, vp, level, TPR, class);
+    record::set_level_word(shape, vp, level, record::TPR, class);
 }
 
 // int: is the target entered, being above the active level, with the vector ready?
@@ -97,5 +92,5 @@ pub fn enters(shape: Shape, vp: &Record, target: Level, vector: u64) -> bool
     ensures { λ r. ⌜ r ≡ enters shape (vpOf (now (vp .entry))) (target .0) vector ⌝ }
 {
     let ready = is_ready(shape, vp, target, vector);
-    (active_of(vp).0 < target.0) & ready
+    (record::active_of(vp).0 < target.0) & ready
 }

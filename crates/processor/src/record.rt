@@ -5,15 +5,13 @@ ghost use Prim.Native.Nat.{_+_, _*_, _%_, _<_};
 ghost use lib.ListN.{length};
 ghost use Rattle.word.specs.Field.{put};
 ghost use Rattle.model.specs.Bounded.{bits};
-ghost use Rattle.model.specs.State.{isLevel, activeOf, enabledAt};
+ghost use Rattle.model.specs.State.{activeOf, enabledAt};
 ghost use Rattle.model.specs.Updates.{withActive};
 ghost use Rattle.processor.specs.Record.{recordWords, levels, levelWords, vpOf, wordIn, wordPut};
 use model::machine::Shape;
 use model::quantity::Level;
+use model::set;
 use model::set::LevelSet;
-use model::set::is_level;
-use model::set::member;
-use model::set::members;
 
 // The words of a record.
 pub const RECORD_WORDS: usize = 126;
@@ -74,7 +72,7 @@ pub(crate) fn level_word(shape: Shape, vp: &Record, level: Level, offset: u64) -
     ensures size { λ _. ⌜ length (now (vp .entry)) ≡ recordWords ⌝ }
 {
     let words: &[u64] = vp;
-    if is_level(shape, level) {
+    if set::is_level(shape, level) {
         let i = place(level, offset);
         return words[i];
     }
@@ -87,7 +85,7 @@ pub(crate) fn set_level_word(shape: Shape, vp: &mut Record, level: Level, offset
     ensures { λ _. ⌜ vpOf (now (vp .exit)) ≡ wordPut shape (vpOf (now (vp .entry))) (level .0) offset value ⌝ }
 {
     let words: &mut [u64] = vp;
-    if is_level(shape, level) {
+    if set::is_level(shape, level) {
         let i = place(level, offset);
         words[i] = value;
     }
@@ -137,12 +135,12 @@ pub fn set_active(vp: &mut Record, level: Level)
 pub fn enabled_at(shape: Shape, vp: &Record, level: Level) -> bool
     ensures { λ r. ⌜ r ≡ enabledAt shape (vpOf (now (vp .entry))) (level .0) ⌝ }
 {
-    member(shape, LevelSet(vp[ENABLED]), level)
+    set::member(shape, LevelSet(vp[ENABLED]), level)
 }
 
 // The levels that are enabled on the processor.
 pub fn enabled_set(shape: Shape, vp: &Record) -> LevelSet
     ensures { λ r. ⌜ r .0 ≡ bits 4 (λ l. enabledAt shape (vpOf (now (vp .entry))) l) ⌝ }
 {
-    members(shape, LevelSet(vp[ENABLED]))
+    set::members(shape, LevelSet(vp[ENABLED]))
 }

@@ -5,12 +5,8 @@ ghost use Prim.Native.Nat.{_-_};
 ghost use Rattle.model.specs.Registers.{dr6, isPrivate, privateOf, sharedOf, registerOf};
 ghost use Rattle.model.specs.Updates.{setPrivate, setShared, setRegister};
 ghost use Rattle.processor.specs.Record.{vpOf};
-use crate::record::PRIVATE_REGISTERS;
+use crate::record;
 use crate::record::Record;
-use crate::record::SHARED;
-use crate::record::SHARED_REGISTERS;
-use crate::record::level_word;
-use crate::record::set_level_word;
 use model::machine::Shape;
 use model::quantity::Level;
 use model::register::DR6;
@@ -26,10 +22,10 @@ pub fn is_private(shape: Shape, register: u64) -> bool
 pub fn private_of(shape: Shape, vp: &Record, level: Level, register: u64) -> u64
     ensures { λ r. ⌜ r ≡ privateOf shape (vpOf (now (vp .entry))) (level .0) register ⌝ }
 {
-    if register >= PRIVATE_REGISTERS {
+    if register >= record::PRIVATE_REGISTERS {
         return 0;
     }
-    level_word(shape, vp, level, register)
+    record::level_word(shape, vp, level, register)
 }
 
 // The place of a register among the shared ones, which are kept from DR6 on.
@@ -47,10 +43,10 @@ pub fn shared_of(vp: &Record, register: u64) -> u64
     ensures { λ r. ⌜ r ≡ sharedOf (vpOf (now (vp .entry))) register ⌝ }
 {
     let place = shared_place(register);
-    if place >= SHARED_REGISTERS {
+    if place >= record::SHARED_REGISTERS {
         return 0;
     }
-    let i = (SHARED + place) as usize;
+    let i = (record::SHARED + place) as usize;
     vp[i]
 }
 
@@ -68,10 +64,10 @@ pub fn register_of(shape: Shape, vp: &Record, level: Level, register: u64) -> u6
 pub fn set_private(shape: Shape, vp: &mut Record, level: Level, register: u64, value: u64)
     ensures { λ _. ⌜ vpOf (now (vp .exit)) ≡ setPrivate shape (vpOf (now (vp .entry))) (level .0) register value ⌝ }
 {
-    if register >= PRIVATE_REGISTERS {
+    if register >= record::PRIVATE_REGISTERS {
         return;
     }
-    set_level_word(shape, vp, level, register, value);
+    record::set_level_word(shape, vp, level, register, value);
 }
 
 // Sets a shared register.
@@ -79,10 +75,10 @@ pub fn set_shared(vp: &mut Record, register: u64, value: u64)
     ensures { λ _. ⌜ vpOf (now (vp .exit)) ≡ setShared (vpOf (now (vp .entry))) register value ⌝ }
 {
     let place = shared_place(register);
-    if place >= SHARED_REGISTERS {
+    if place >= record::SHARED_REGISTERS {
         return;
     }
-    let i = (SHARED + place) as usize;
+    let i = (record::SHARED + place) as usize;
     vp[i] = value;
 }
 

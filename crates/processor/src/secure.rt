@@ -7,11 +7,8 @@ ghost use Rattle.model.specs.Bounded.{bits, any};
 ghost use Rattle.model.specs.State.{secureOf, mbecBit, lockBit};
 ghost use Rattle.model.specs.Updates.{setSecure, unlocked};
 ghost use Rattle.processor.specs.Record.{vpOf, lockCleared};
+use crate::record;
 use crate::record::Record;
-use crate::record::SECURE;
-use crate::record::level_word;
-use crate::record::set_level_bit;
-use crate::record::set_level_word;
 use model::machine::Shape;
 use model::quantity::Level;
 use model::quantity::NO_LEVEL;
@@ -32,7 +29,7 @@ pub fn secure_of(shape: Shape, vp: &Record, holder: Level, lower: Level) -> u64
     if lower.0 >= NO_LEVEL {
         return 0;
     }
-    level_word(shape, vp, holder, SECURE + lower.0)
+    record::level_word(shape, vp, holder, record::SECURE + lower.0)
 }
 
 // Has the holder MBEC on for the lower level?
@@ -78,7 +75,7 @@ pub fn set_secure(shape: Shape, vp: &mut Record, holder: Level, lower: Level, va
     if lower.0 >= NO_LEVEL {
         return;
     }
-    set_level_word(shape, vp, holder, SECURE + lower.0, value);
+    record::set_level_word(shape, vp, holder, record::SECURE + lower.0, value);
 }
 
 // Clears the holder's lock in its configuration of the lower level.
@@ -86,7 +83,7 @@ fn clear_lock(shape: Shape, vp: &mut Record, holder: Level, lower: Level)
     requires { ⌜ lower .0 < 4 ⌝ }
     ensures { λ _. ⌜ vpOf (now (vp .exit)) ≡ lockCleared shape (vpOf (now (vp .entry))) (holder .0) (lower .0) ⌝ }
 {
-    set_level_bit(shape, vp, holder, SECURE + lower.0, LOCK_BIT, 0);
+    record::set_level_bit(shape, vp, holder, record::SECURE + lower.0, LOCK_BIT, 0);
 }
 
 // ret: clears the TLB locks of a level.

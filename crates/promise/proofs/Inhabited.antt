@@ -3,14 +3,13 @@ use mathlib.Core.Path.{refl}
 use mathlib.Core.Bool.{Bool, true, false}
 use mathlib.Core.List.{List, [], _∷_}
 use Prim.Native.Nat.{ℕ}
-use lib.ListN.{replicate}
 use Rattle.model.specs.declared.machine.Partition.{Partition}
 use Rattle.model.specs.declared.machine.Shape.{Shape}
 use Rattle.model.specs.declared.machine.VirtualProcessor.{VirtualProcessor}
 use Rattle.model.specs.Arrays.{numberAt}
 use Rattle.model.specs.Bounded.{any}
 use Rattle.model.specs.Events.{locked}
-use Rattle.model.specs.State.{State, level, levelSet, noContext, noVp, shape, pages, partition, processors, isProcessor, isLevel, top, vp, context, secureOf, activeOf, active}
+use Rattle.model.specs.State.{State, level, levelSet, noContext, shape, pages, partition, processors, isProcessor, isLevel, top, vp, context, secureOf, activeOf, active}
 use Rattle.model.specs.Updates.{withActive, withSecure}
 use Rattle.promise.specs.Promise.{Some, SomeOther, SomeLocked}
 

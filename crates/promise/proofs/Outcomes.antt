@@ -1,14 +1,12 @@
 -- The outcome of a rule from its answer, and what a rule asks of a state, said of the parts that a function is given. Assumes nothing.
-use mathlib.Core.Path.{_≡_, refl, sym, ap, _∙_}
+use mathlib.Core.Path.{_≡_, refl, ap, _∙_}
 use mathlib.Core.Bool.{true, false}
-use mathlib.Core.List.{List}
-use mathlib.Core.Option.{Option, some}
+use mathlib.Core.Option.{Option}
 use Prim.Native.Nat.{ℕ}
 use lib.Dec.{leb, ltb}
 use lib.Seq.{set-getD}
 use borrow.Author.Tests.{ltb-true, lt-leb}
 use Rattle.model.proofs.Bools.{and-left, and-right}
-use Rattle.model.specs.declared.answer.Answer.{Answer}
 use Rattle.model.specs.declared.answer.Answer.the-variants.{Done, Refused}
 use Rattle.model.specs.declared.answer.Refusal.{Refusal}
 use Rattle.model.specs.declared.machine.Partition.{Partition}
@@ -17,10 +15,10 @@ use Rattle.model.specs.declared.machine.VirtualProcessor.{VirtualProcessor}
 use Rattle.model.specs.Arrays.{stored}
 use Rattle.model.specs.Events.{Rule}
 use Rattle.model.specs.Masks.{protectsIn, protects}
-use Rattle.model.specs.State.{State, shape, vp, processors, pages, partition, top, maxLevel, inSet, activeOf, active, configIn, configOf, enabledAt, enabledOn, enabledFor, mbecFor, isProcessor, pastVp}
-use Rattle.model.specs.Step.{Outcome, answerBy, outcome, nextFor}
+use Rattle.model.specs.State.{State, shape, vp, processors, partition, top, maxLevel, inSet, activeOf, active, configIn, configOf, enabledAt, enabledOn, enabledFor, mbecFor, isProcessor, pastVp}
+use Rattle.model.specs.Step.{answerBy, outcome, nextFor}
 use Rattle.model.specs.Updates.{putVp, putPartition, onVp, onPartition}
-use Rattle.promise.specs.Promise.{result, Runs, Acts}
+use Rattle.promise.specs.Promise.{result, Runs}
 
 -- A processor's own record put back changes nothing, nor does what the partition holds.
 pub put-own : (s : State) (w : ℕ) → isProcessor s w ≡ true → putVp s w (vp s w) ≡ s

@@ -14,14 +14,10 @@ ghost use Rattle.promise.specs.Promise.{result, Runs};
 use model::answer::Answer;
 use model::answer::Refusal;
 use model::machine::Shape;
-use model::quantity::HIGHEST_CLASS;
-use model::quantity::HIGHEST_LEVEL;
+use model::quantity;
 use model::quantity::Level;
 use model::quantity::Mode;
-use model::quantity::is_user;
-use model::register::CR0;
-use model::register::LAST_REGISTER;
-use model::register::PROTECTED_BIT;
+use model::register;
 use partition::config::secure_reserved_set;
 use partition::level::Levels;
 use partition::level::mbec_for;
@@ -48,13 +44,13 @@ pub fn secure(
         → Runs shape (vpOf (now (vp .entry))) s v → partitionIn s ≡ partitionOf (now (levels .entry)) masks
         → acted s v mode (Secure target word) ≡ result r (putVp s v (vpOf (now (vp .exit))))) ⌝ }
 {
-    if HIGHEST_LEVEL < target.0 {
+    if quantity::HIGHEST_LEVEL < target.0 {
         return Answer::Refused(Refusal::LevelOutOfRange);
     }
     if secure_reserved_set(word) {
         return Answer::Refused(Refusal::ReservedBits);
     }
-    if is_user(mode) {
+    if quantity::is_user(mode) {
         return Answer::Refused(Refusal::UserMode);
     }
     if shape.max_level.0 < target.0 {
@@ -80,13 +76,13 @@ pub fn rreg(shape: Shape, vp: &Record, mode: Mode, target: Level, register: u64)
     ensures { λ r. ⌜ ((s : State) (v : ℕ) → Runs shape (vpOf (now (vp .entry))) s v
         → acted s v mode (Rreg target register) ≡ result r s) ⌝ }
 {
-    if HIGHEST_LEVEL < target.0 {
+    if quantity::HIGHEST_LEVEL < target.0 {
         return Answer::Refused(Refusal::LevelOutOfRange);
     }
-    if LAST_REGISTER < register {
+    if register::LAST_REGISTER < register {
         return Answer::Refused(Refusal::NoSuchRegister);
     }
-    if is_user(mode) {
+    if quantity::is_user(mode) {
         return Answer::Refused(Refusal::UserMode);
     }
     if shape.max_level.0 < target.0 {
@@ -114,17 +110,17 @@ pub fn wreg(
     ensures { λ r. ⌜ ((s : State) (v : ℕ) → Runs shape (vpOf (now (vp .entry))) s v
         → acted s v mode (Wreg target register value) ≡ result r (putVp s v (vpOf (now (vp .exit))))) ⌝ }
 {
-    if HIGHEST_LEVEL < target.0 {
+    if quantity::HIGHEST_LEVEL < target.0 {
         return Answer::Refused(Refusal::LevelOutOfRange);
     }
-    if LAST_REGISTER < register {
+    if register::LAST_REGISTER < register {
         return Answer::Refused(Refusal::NoSuchRegister);
     }
-    let real = !has_bit(value, PROTECTED_BIT);
-    if (register == CR0) & (0 < target.0) & real {
+    let real = !has_bit(value, register::PROTECTED_BIT);
+    if (register == register::CR0) & (0 < target.0) & real {
         return Answer::Refused(Refusal::Cr0InRealMode);
     }
-    if is_user(mode) {
+    if quantity::is_user(mode) {
         return Answer::Refused(Refusal::UserMode);
     }
     if shape.max_level.0 < target.0 {
@@ -146,10 +142,10 @@ pub fn tpr(shape: Shape, vp: &mut Record, mode: Mode, class: u64) -> Answer
     ensures { λ r. ⌜ ((s : State) (v : ℕ) → Runs shape (vpOf (now (vp .entry))) s v
         → acted s v mode (Tpr class) ≡ result r (putVp s v (vpOf (now (vp .exit))))) ⌝ }
 {
-    if HIGHEST_CLASS < class {
+    if quantity::HIGHEST_CLASS < class {
         return Answer::Refused(Refusal::ClassOutOfRange);
     }
-    if is_user(mode) {
+    if quantity::is_user(mode) {
         return Answer::Refused(Refusal::UserMode);
     }
     let actor = active_of(vp);

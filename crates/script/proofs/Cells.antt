@@ -49,11 +49,6 @@ pub written-length : (buffer : List ℕ) (at : ℕ) (text : List ℕ) {after : �
     → length out ≡ length buffer
 written-length buffer at text w = ap length (w .1) ∙ length-sets buffer at text
 
--- What has room after the text in the buffer before has room in the buffer then.
-pub written-room : (buffer : List ℕ) (at : ℕ) (text : List ℕ) (more : ℕ) {after : ℕ} {out : List ℕ} → Written buffer at text after out
-    → at + (length text + more) ≤ length buffer → after + more ≤ length out
-written-room buffer at text more w h = omega (arith, w .0, written-length buffer at text w, h)
-
 -- Another text was written after it.
 pub written-next : (buffer : List ℕ) (at : ℕ) (text next : List ℕ) {after end : ℕ} {out last : List ℕ} → Written buffer at text after out
     → Written out after next end last → Written buffer at (text ++ next) end last

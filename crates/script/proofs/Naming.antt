@@ -10,7 +10,7 @@ use native.Mathlib.Omega.{arith}
 use lib.Dec.{eqb, leb, ltb}
 use lib.ListN.{drop, drop-of-length-le, getD, length, take}
 use lib.Seq.{drop-cons, length-take-le}
-use Rattle.decimal.proofs.DigitReading.{both}
+use Rattle.decimal.proofs.DigitReading.{and-parts}
 use Rattle.model.specs.declared.answer.Refusal.{Refusal}
 use Rattle.model.specs.declared.answer.Refusal.the-variants.{LineTooLong, UnknownWord}
 use Rattle.script.specs.Bytes.{begun, same}
@@ -77,7 +77,7 @@ begun-same (b ∷ line) [] h = go (eqb b tab)
     go true = refl
     go false = refl
 begun-same (b ∷ line) (a ∷ word) h =
-    let (plain, rest) = both (not (eqb a tab)) (noTab word) h in
+    let (plain, rest) = and-parts (not (eqb a tab)) (noTab word) h in
     go (eqb b tab) refl plain (begun-same line word rest)
   where
     other : not (eqb a tab) ≡ true → eqb b tab ≡ true → eqb b a ≡ false
@@ -111,7 +111,7 @@ module _ {A R : Type 0} (good : A → R) (bad : Refusal → R) where
   unfolding among formAmong
   said-begun [] line h = refl
   said-begun (form ∷ forms) line h =
-      let (here, later) = both (sound form) (every sound forms) h in
+      let (here, later) = and-parts (sound form) (every sound forms) h in
       rw (begun-same line (form .word) here) (go (same (take (untilTab line) line) (form .word)) refl (said-begun forms line later))
     where
       go : (t : Bool) → same (take (untilTab line) line) (form .word) ≡ t
@@ -173,7 +173,7 @@ pub by-first : (some-words : List Word) (line : List ℕ) (byte : ℕ) → every
 unfolding withFirst
 by-first [] line byte h e = refl
 by-first (word ∷ words) line byte h e =
-    let (here, more) = both (hasByte word) (every hasByte words) h in
+    let (here, more) = and-parts (hasByte word) (every hasByte words) h in
     go (eqb (getD (formOf word .word) 0 0) byte) refl here (by-first words line byte more e)
   where
     go : (t : Bool) → eqb (getD (formOf word .word) 0 0) byte ≡ t → hasByte word ≡ true
@@ -188,7 +188,7 @@ by-first (word ∷ words) line byte h e =
 pub none-empty : (some-words : List Word) (line : List ℕ) → every hasByte some-words ≡ true → length line ≡ 0 → Nothing ≡ namedAmong some-words line
 none-empty [] line h e = refl
 none-empty (word ∷ words) line h e =
-    let (here, more) = both (hasByte word) (every hasByte words) h in
+    let (here, more) = and-parts (hasByte word) (every hasByte words) h in
     rw (too-short line (formOf word .word) (omega (arith, ltb-true 0 (length (formOf word .word)) here))) (none-empty words line more e)
 
 -- A line whose first byte no word has begins with none.
@@ -201,7 +201,7 @@ pub none-first : (some-words : List Word) (line : List ℕ) → every hasByte so
     → Nothing ≡ namedAmong some-words line
 none-first [] line h done = refl
 none-first (word ∷ words) line h (here and later) =
-    let (has, more) = both (hasByte word) (every hasByte words) h in
+    let (has, more) = and-parts (hasByte word) (every hasByte words) h in
     rw (other-first line (formOf word .word) (ltb-true 0 (length (formOf word .word)) has) (λ e. here (sym e))) (none-first words line more later)
 
 -- What is known of the word that a line was found to begin with: no event takes more than seven numbers.
@@ -218,7 +218,7 @@ pub found : (some-words : List Word) (line : List ℕ) {word : Word} {end takes 
     → namedAmong some-words line ≡ As word end takes → Found line word end takes
 found [] line h e = absurd (let z : _≡_ {A = ℕ} 0 1 = cc in omega arith)
 found (first ∷ words) line {word} {end} {takes} h e =
-    let (here, more) = both (fewNumbers first) (every fewNumbers words) h in
+    let (here, more) = and-parts (fewNumbers first) (every fewNumbers words) h in
     go (begun line (formOf first .word)) refl (leb-true (formOf first .count) 7 here) (λ d. found words line more d) e
   where
     go : (t : Bool) → begun line (formOf first .word) ≡ t → formOf first .count ≤ 7

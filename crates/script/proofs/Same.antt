@@ -7,7 +7,7 @@ use mathlib.Core.Path.{_≡_, refl}
 use borrow.Author.Tests.{eqb-true}
 use native.Mathlib.Omega.{arith}
 use lib.Dec.{eqb}
-use Rattle.decimal.proofs.DigitReading.{both}
+use Rattle.decimal.proofs.DigitReading.{and-parts}
 use Rattle.script.specs.Bytes.{same}
 
 -- A test has one outcome.
@@ -21,7 +21,7 @@ same-true [] [] h = refl
 same-true [] (b ∷ right) h = differ h
 same-true (a ∷ left) [] h = differ h
 same-true (a ∷ left) (b ∷ right) h =
-    let (first, more) = both (eqb a b) (same left right) h in
+    let (first, more) = and-parts (eqb a b) (same left right) h in
     let e : a ≡ b = eqb-true a b first in
     cc (same-true left right more)
 

@@ -4,9 +4,8 @@ use mathlib.Core.Bool.{cond}
 use mathlib.Core.List.{List, [], _∷_, map}
 use Prim.Native.Nat.{ℕ}
 use lib.ListN.{length}
-use Rattle.model.specs.declared.event.Event.{Event}
 use Rattle.script.specs.Bytes.{begun}
-use Rattle.script.specs.EventForms.{byLevel, enpart, envp, call, ret, read, write, fetch, protect, config, secure, flush, rreg, wreg, tpr, ack, int, pstat, vstat, caps}
+use Rattle.script.specs.EventForms.{Action, Event, byLevel, enpart, envp, call, ret, read, write, fetch, protect, config, secure, flush, rreg, wreg, tpr, ack, int, pstat, vstat, caps}
 use Rattle.script.specs.LineForms.{Form, made}
 use Rattle.script.specs.declared.words.Named.{Named}
 use Rattle.script.specs.declared.words.Named.the-variants.{As, Nothing}
@@ -14,7 +13,6 @@ use Rattle.script.specs.declared.words.Word.{Word}
 use Rattle.script.specs.declared.words.Word.the-variants.{Interrupt, Made}
 use Rattle.script.specs.declared.words.ActionWord.{ActionWord}
 use Rattle.script.specs.declared.words.ActionWord.the-variants.{Enpart, Envp, Call, Ret, Read, Write, Fetch, Protect, Config, Secure, Flush, Rreg, Wreg, Tpr, Ack, Pstat, Vstat, Caps}
-use Rattle.model.specs.declared.event.Action.{Action}
 
 -- The form of what a level does, by its word, and of an event.
 abbrev pub actionForm : ActionWord → Form Action

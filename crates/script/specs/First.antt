@@ -2,7 +2,7 @@
 -- Assumes nothing.
 use mathlib.Core.List.{List, [], _∷_}
 use Prim.Native.Nat.{ℕ}
-use Rattle.model.specs.declared.machine.FirstLine.{FirstLine}
+pub use Rattle.model.specs.declared.machine.FirstLine.{FirstLine}
 use Rattle.model.specs.State.{level}
 use Rattle.script.specs.Bytes.{bytes}
 use Rattle.script.specs.LineForms.{Form, said}

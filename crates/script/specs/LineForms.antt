@@ -9,8 +9,8 @@ use lib.ListN.{getD, length}
 use Rattle.decimal.specs.Read.{readDecimal}
 use Rattle.decimal.specs.declared.Number.{Number}
 use Rattle.decimal.specs.declared.Number.the-variants.{Value, Malformed}
-use Rattle.model.specs.declared.answer.Refusal.{Refusal}
-use Rattle.model.specs.declared.answer.Refusal.the-variants.{LineTooLong, UnknownWord, WrongFieldCount, NotANumber}
+pub use Rattle.model.specs.declared.answer.Refusal.{Refusal}
+pub use Rattle.model.specs.declared.answer.Refusal.the-variants.{LineTooLong, UnknownWord, WrongFieldCount, NotANumber}
 use Rattle.script.specs.Bytes.{same}
 
 -- Fields are parted by tabs.

@@ -8,9 +8,7 @@ use Prim.Native.Nat.{ℕ, _≤_}
 use lib.Dec.{eqb}
 use lib.ListN.{drop, getD, length, replicate}
 use lib.Seq.{sets}
-use Rattle.model.specs.declared.answer.Refusal.{Refusal}
-use Rattle.model.specs.declared.answer.Refusal.the-variants.{NotANumber, WrongFieldCount}
-use Rattle.script.specs.LineForms.{fields, numbersIn, tab}
+use Rattle.script.specs.LineForms.{Refusal, NotANumber, WrongFieldCount, fields, numbersIn, tab}
 use Rattle.script.specs.Search.{byteAt, untilByte}
 
 -- How many bytes stand before the first tab.

@@ -3,13 +3,9 @@
 use mathlib.Core.List.{List, [], _∷_, _++_, map}
 use Prim.Native.Nat.{ℕ, _<_, _^_}
 use Rattle.decimal.specs.Write.{decimal}
-use Rattle.model.specs.declared.event.Action.{Action}
-use Rattle.model.specs.declared.event.Event.{Event}
-use Rattle.model.specs.declared.event.Action.the-variants.{Enpart, Envp, Call, Ret, Read, Write, Fetch, Protect, Config, Secure, Flush, Rreg, Wreg, Tpr, Ack, Pstat, Vstat, Caps}
-use Rattle.model.specs.declared.event.Event.the-variants.{Made, Int}
-use Rattle.model.specs.declared.machine.FirstLine.{FirstLine}
-use Rattle.script.specs.EventForms.{byLevel, enpart, envp, call, ret, read, write, fetch, protect, config, secure, flush, rreg, wreg, tpr, ack, int, pstat, vstat, caps}
-use Rattle.script.specs.First.{vsm}
+use Rattle.script.specs.EventForms.{Action, Enpart, Envp, Call, Ret, Read, Write, Fetch, Protect, Config, Secure, Flush, Rreg, Wreg, Tpr, Ack, Pstat, Vstat, Caps}
+use Rattle.script.specs.EventForms.{Event, Made, Int, byLevel, enpart, envp, call, ret, read, write, fetch, protect, config, secure, flush, rreg, wreg, tpr, ack, int, pstat, vstat, caps}
+use Rattle.script.specs.First.{FirstLine, vsm}
 use Rattle.script.specs.LineForms.{Form, tab}
 
 -- Fields, each after a tab.

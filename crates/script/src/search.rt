@@ -20,21 +20,22 @@ pub fn find_byte(bytes: &[u8], start: usize, byte: u8) -> usize
     i
 }
 
-// How many of the four bytes from `i` on stand before `byte`.
-fn bytes_before(bytes: &[u8], i: usize, byte: u8) -> usize
-    requires { ⌜ i + 4 ≤ length (now bytes) ⌝ }
-    ensures { λ r. ⌜ byteAt byte (now (bytes .entry)) i ≡ cond (ltb r 4) (i + r) (byteAt byte (now (bytes .entry)) (i + 4)) ⌝ }
+// How many of the four bytes from `start` on stand before `byte`.
+fn bytes_before(bytes: &[u8], start: usize, byte: u8) -> usize
+    requires { ⌜ start + 4 ≤ length (now bytes) ⌝ }
+    ensures { λ r. ⌜ byteAt byte (now (bytes .entry)) start
+        ≡ cond (ltb r 4) (start + r) (byteAt byte (now (bytes .entry)) (start + 4)) ⌝ }
 {
-    if bytes[i] == byte {
+    if bytes[start] == byte {
         return 0;
     }
-    if bytes[i + 1] == byte {
+    if bytes[start + 1] == byte {
         return 1;
     }
-    if bytes[i + 2] == byte {
+    if bytes[start + 2] == byte {
         return 2;
     }
-    if bytes[i + 3] == byte {
+    if bytes[start + 3] == byte {
         return 3;
     }
     4

@@ -67,7 +67,8 @@ pub fn begins(line: &[u8], name: &[u8]) -> bool
 
 // This word, where the line begins with its name, or what was found otherwise.
 fn pick(line: &[u8], name: &[u8], word: Word, takes: usize, otherwise: Named) -> Named
-    ensures { λ r. ⌜ r ≡ cond (begun (now (line .entry)) (now (name .entry))) (As word (length (now (name .entry))) takes) otherwise ⌝ }
+    ensures { λ r. ⌜ r ≡ cond (begun (now (line .entry)) (now (name .entry)))
+        (As word (length (now (name .entry))) takes) otherwise ⌝ }
 {
     if begins(line, name) {
         return Named::As {
@@ -86,84 +87,37 @@ pub fn word_of(line: &[u8]) -> Named
     if line.len() == 0 {
         return Named::Nothing;
     }
+    let none = Named::Nothing;
     match line[0] {
-        b'a' => pick(line, b"ack", Word::Made(ActionWord::Ack), 2, Named::Nothing),
+        b'a' => pick(line, b"ack", Word::Made(ActionWord::Ack), 2, none),
         b'c' => {
-            let caps = pick(
-                line,
-                b"caps",
-                Word::Made(ActionWord::Caps),
-                2,
-                Named::Nothing,
-            );
+            let caps = pick(line, b"caps", Word::Made(ActionWord::Caps), 2, none);
             let config = pick(line, b"config", Word::Made(ActionWord::Config), 4, caps);
             pick(line, b"call", Word::Made(ActionWord::Call), 3, config)
         }
         b'e' => {
-            let envp = pick(
-                line,
-                b"envp",
-                Word::Made(ActionWord::Envp),
-                7,
-                Named::Nothing,
-            );
+            let envp = pick(line, b"envp", Word::Made(ActionWord::Envp), 7, none);
             pick(line, b"enpart", Word::Made(ActionWord::Enpart), 4, envp)
         }
         b'f' => {
-            let flush = pick(
-                line,
-                b"flush",
-                Word::Made(ActionWord::Flush),
-                2,
-                Named::Nothing,
-            );
+            let flush = pick(line, b"flush", Word::Made(ActionWord::Flush), 2, none);
             pick(line, b"fetch", Word::Made(ActionWord::Fetch), 3, flush)
         }
-        b'i' => pick(line, b"int", Word::Interrupt, 3, Named::Nothing),
+        b'i' => pick(line, b"int", Word::Interrupt, 3, none),
         b'p' => {
-            let pstat = pick(
-                line,
-                b"pstat",
-                Word::Made(ActionWord::Pstat),
-                2,
-                Named::Nothing,
-            );
+            let pstat = pick(line, b"pstat", Word::Made(ActionWord::Pstat), 2, none);
             pick(line, b"protect", Word::Made(ActionWord::Protect), 4, pstat)
         }
         b'r' => {
-            let rreg = pick(
-                line,
-                b"rreg",
-                Word::Made(ActionWord::Rreg),
-                4,
-                Named::Nothing,
-            );
+            let rreg = pick(line, b"rreg", Word::Made(ActionWord::Rreg), 4, none);
             let read = pick(line, b"read", Word::Made(ActionWord::Read), 3, rreg);
             pick(line, b"ret", Word::Made(ActionWord::Ret), 3, read)
         }
-        b's' => pick(
-            line,
-            b"secure",
-            Word::Made(ActionWord::Secure),
-            4,
-            Named::Nothing,
-        ),
-        b't' => pick(line, b"tpr", Word::Made(ActionWord::Tpr), 3, Named::Nothing),
-        b'v' => pick(
-            line,
-            b"vstat",
-            Word::Made(ActionWord::Vstat),
-            2,
-            Named::Nothing,
-        ),
+        b's' => pick(line, b"secure", Word::Made(ActionWord::Secure), 4, none),
+        b't' => pick(line, b"tpr", Word::Made(ActionWord::Tpr), 3, none),
+        b'v' => pick(line, b"vstat", Word::Made(ActionWord::Vstat), 2, none),
         b'w' => {
-            let wreg = pick(
-                line,
-                b"wreg",
-                Word::Made(ActionWord::Wreg),
-                5,
-                Named::Nothing,
-            );
+            let wreg = pick(line, b"wreg", Word::Made(ActionWord::Wreg), 5, none);
             pick(line, b"write", Word::Made(ActionWord::Write), 4, wreg)
         }
         _ => Named::Nothing,

@@ -4,13 +4,13 @@ use mathlib.Core.List.{List, [], _∷_, _++_}
 use mathlib.Core.Option.{Option, none, some}
 use mathlib.Core.Path.{_≡_, refl, sym, ap, _∙_}
 use Prim.Native.Nat.{ℕ, _+_, _-_, _%_, _≤_, min}
-use borrow.Author.Tests.{eqb-true, leb-true, lt-ltb, ltb-false, ltb-true}
+use borrow.Author.Tests.{eqb-true, lt-ltb, ltb-false, ltb-true}
 use native.Mathlib.Omega.{arith}
 use lib.Dec.{eqb, ltb}
 use lib.ListN.{drop, getD, length, length-replicate, length-take, replicate, replicate-append-replicate, take}
-use lib.Seq.{length-take-le, sets, take-all, take-at}
+use lib.Seq.{length-take-le, take-all, take-at}
 use Rattle.model.proofs.Bools.{and-right}
-use Rattle.model.proofs.Fresh.{few-pages}
+use Rattle.model.proofs.FreshFormed.{few-pages}
 use Rattle.model.proofs.Keeps.{step-keeps}
 use Rattle.model.specs.Answers.{numberOf, refusalNumber, valueOf}
 use Rattle.model.specs.Fresh.{admissible, fresh}

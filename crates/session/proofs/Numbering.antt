@@ -3,7 +3,7 @@ use mathlib.Core.Bool.{Bool, true, false, cond}
 use mathlib.Core.List.{List, [], _∷_, _++_, append-assoc}
 use mathlib.Core.Path.{_≡_, refl, sym, ap, subst, _∙_}
 use Prim.Native.Nat.{ℕ, zero, suc, _+_, _-_, _*_, _/_, _%_, _^_, _≤_, _<_}
-use borrow.Author.Tests.{eqb-true, le-ltb, lt-ltb, ltb-false, ltb-true, ne-eqb}
+use borrow.Author.Tests.{ltb-false, ltb-true, ne-eqb}
 use native.Mathlib.Nat.{pow-le-pow-right, pow-suc}
 use native.Mathlib.Numerals.{add-one}
 use native.Mathlib.Omega.{arith}
@@ -12,7 +12,7 @@ use lib.ListN.{length, length-append, length-set, set}
 use lib.Seq.{length-sets, set-set, sets}
 use Rattle.decimal.proofs.Digits.{last-digit, one-digit, text-length}
 use Rattle.decimal.proofs.Writing.{set-sets}
-use Rattle.decimal.specs.Write.{decimal, digitsBefore, digitsIn, lastByte}
+use Rattle.decimal.specs.Write.{digitsBefore, digitsIn, lastByte}
 use Rattle.script.proofs.Cells.{cell-length}
 use Rattle.script.proofs.StoredTexts.{sets-append}
 use Rattle.script.specs.LineForms.{tab}

@@ -5,7 +5,6 @@ ghost use mathlib.Core.Path.{_≡_};
 ghost use lib.ListN.{length};
 ghost use lib.Seq.{sets};
 ghost use Rattle.session.specs.Session.{Bounds, fed, first, isStopped, lastText, progressOf};
-use chunk::KEPT_BYTES;
 use model::machine::Setup;
 use partition::level::Levels;
 use partition::mask::Masks;
@@ -33,7 +32,7 @@ pub struct Session {
     number: u64,
     // The beginning of a line that goes on in the next chunk: so many bytes of the buffer.
     length: usize,
-    line: [u8; KEPT_BYTES],
+    line: [u8; chunk::KEPT_BYTES],
     // The machine in its parts: what stays the same, the words of the levels, the masks, and the records of four processors.
     setup: Setup,
     levels: Levels,
@@ -75,7 +74,8 @@ pub fn feed(start: Session, chunk: &[u8], out: &mut [u8]) -> Fed
     ensures session { λ r. ⌜ progressOf (r .session)
         ≡ fed (progressOf start) (now (chunk .entry)) (length (now (out .entry))) .progress ⌝ }
     ensures used { λ r. ⌜ r .used ≡ fed (progressOf start) (now (chunk .entry)) (length (now (out .entry))) .used ⌝ }
-    ensures wrote { λ r. ⌜ r .wrote ≡ length (fed (progressOf start) (now (chunk .entry)) (length (now (out .entry))) .text) ⌝ }
+    ensures wrote { λ r. ⌜ r .wrote
+        ≡ length (fed (progressOf start) (now (chunk .entry)) (length (now (out .entry))) .text) ⌝ }
     ensures out { λ _. ⌜ now (out .exit)
         ≡ sets (now (out .entry)) 0 (fed (progressOf start) (now (chunk .entry)) (length (now (out .entry))) .text) ⌝ }
     ensures bounds { λ r. ⌜ Bounds (r .used) (r .wrote) (now (chunk .entry)) (now (out .exit)) ⌝ }

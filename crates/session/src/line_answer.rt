@@ -6,9 +6,6 @@ ghost use Rattle.script.specs.declared.Parsed.the-variants as said;
 ghost use Rattle.session.specs.SessionParts.{AnsweredBy};
 ghost use Rattle.state.specs.Lent.{lent};
 use listing::Shown;
-use listing::level_on;
-use listing::processor_of;
-use listing::show;
 use model::answer::Answer;
 use model::event::Event;
 use model::machine::Setup;
@@ -18,7 +15,6 @@ use partition::mask::Masks;
 use processor::record::Record;
 use processor::record::active_of;
 use script::Parsed;
-use step::step_if;
 
 // What an event is answered, in a state that is well formed as `formed` tells.
 fn answer_event(
@@ -35,12 +31,12 @@ fn answer_event(
         (lent setup (now (levels .entry)) (now (masks .entry)) (now (vps .entry)) (now (words .entry)))
         (lent setup (now (levels .exit)) (now (masks .exit)) (now (vps .exit)) (now (words .exit))) ⌝ }
 {
-    let vp = processor_of(event);
-    let answer = step_if(formed, setup, levels, masks, vps, words, event);
+    let vp = listing::processor_of(event);
+    let answer = step::step_if(formed, setup, levels, masks, vps, words, event);
     // The place for vp, which counts only where there is such a processor.
     let place = (vp.0 % 4) as usize;
-    let active = level_on(vp, setup.processors, active_of(&vps[place]));
-    show(answer, active)
+    let active = listing::level_on(vp, setup.processors, active_of(&vps[place]));
+    listing::show(answer, active)
 }
 
 // What a line is answered: the bytes of `line`, in a state that is well formed as `formed` tells.
@@ -61,6 +57,6 @@ pub(crate) fn answer_line(
     let parsed = script::parse(line);
     match parsed {
         Parsed::Event(event) => answer_event(formed, setup, levels, masks, vps, words, event),
-        Parsed::Malformed(refusal) => show(Answer::Refused(refusal), Level(0)),
+        Parsed::Malformed(refusal) => listing::show(Answer::Refused(refusal), Level(0)),
     }
 }

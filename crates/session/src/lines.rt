@@ -8,7 +8,8 @@ ghost use lib.ListN.{drop, length, replicate};
 ghost use Rattle.model.specs.Fresh.{admissible, fresh};
 ghost use Rattle.state.specs.Lent.{lent};
 ghost use Rattle.session.specs.SessionParts.{EndedBy, FedFrom, blankIn, hasStopped, isLater};
-ghost use Rattle.session.specs.Session.{begun, ended, extended, fed, first, kept, later, lentOf, progressIn, progressOf, stateIn};
+ghost use Rattle.session.specs.Session.{begun, ended, extended, fed, first, kept, later, lentOf};
+ghost use Rattle.session.specs.Session.{progressIn, progressOf, stateIn};
 ghost use Rattle.chunk.specs.Chunk.{held};
 ghost use Rattle.script.specs.ListingLine.{listingLine, longestRecord};
 ghost use lib.Seq.{sets};
@@ -17,10 +18,7 @@ use crate::LONGEST_RECORD;
 use crate::Phase;
 use crate::Session;
 use crate::line_answer::answer_line;
-use crate::listing_record::line_number;
-use crate::listing_record::next_number;
-use crate::listing_record::write_record;
-use chunk::KEPT_BYTES;
+use crate::listing_record;
 use listing::Shown;
 use model::machine::FirstLine;
 use model::quantity::Level;
@@ -28,10 +26,7 @@ use partition::level::Levels;
 use partition::mask::Masks;
 use processor::record::Record;
 use script::Start;
-use state::fresh::fresh_levels;
-use state::fresh::fresh_masks;
-use state::fresh::fresh_record;
-use state::fresh::setup_of;
+use state::fresh;
 use state::well_formed_state::well_formed;
 
 // The session after a line, and how many bytes its record has.
@@ -64,17 +59,18 @@ pub(crate) fn is_later(phase: Phase) -> bool
 // The session of a phase with the machine that a first line describes. It holds nothing of a line, and all words are 0.
 fn opened(phase: Phase, number: u64, first: FirstLine, lent: usize) -> Session
     ensures progress { λ r. ⌜ progressOf r ≡ progressIn phase number (stateIn r) [] ⌝ }
-    ensures state { λ r. ⌜ stateIn r ≡ record { machine = fresh first .machine; words = lentOf (replicate 64 0) lent } ⌝ }
+    ensures state { λ r. ⌜ stateIn r
+        ≡ record { machine = fresh first .machine; words = lentOf (replicate 64 0) lent } ⌝ }
 {
-    let record = fresh_record();
+    let record = fresh::fresh_record();
     Session {
         phase,
         number,
         length: 0,
-        line: [0; KEPT_BYTES],
-        setup: setup_of(first),
-        levels: fresh_levels(),
-        masks: fresh_masks(),
+        line: [0; chunk::KEPT_BYTES],
+        setup: fresh::setup_of(first),
+        levels: fresh::fresh_levels(),
+        masks: fresh::fresh_masks(),
         first: record,
         second: record,
         third: record,
@@ -107,7 +103,8 @@ fn resume(
     vps: [Record; 4],
     words: [u64; 64],
 ) -> Session
-    ensures { λ r. ⌜ progressOf r ≡ later number (lent (start .setup) levels masks vps (lentOf words (start .lent))) [] ⌝ }
+    ensures { λ r. ⌜ progressOf r
+        ≡ later number (lent (start .setup) levels masks vps (lentOf words (start .lent))) [] ⌝ }
 {
     let line = start.line;
     let setup = start.setup;
@@ -153,7 +150,7 @@ fn write_first(out: &mut [u8], answer: u64) -> usize
         value: 0,
         level: Level(0),
     };
-    write_record(out, 0, line_number(0), shown)
+    listing_record::write_record(out, 0, listing_record::line_number(0), shown)
 }
 
 // Refuses the first line: the session stops.
@@ -180,7 +177,8 @@ fn begin(first: FirstLine, out: &mut [u8]) -> Written
 // Ends the first line.
 fn end_first(start: Session, out: &mut [u8]) -> Written
     requires { ⌜ longestRecord ≤ length (now out) ⌝ }
-    ensures { λ r. ⌜ EndedBy (ended (first (held (start .line) (start .length)))) r (now (out .entry)) (now (out .exit)) ⌝ }
+    ensures { λ r. ⌜ EndedBy (ended (first (held (start .line) (start .length)))) r
+        (now (out .entry)) (now (out .exit)) ⌝ }
 {
     let line = start.line;
     let Start::First(first) = chunk::parse_first(&line, start.length) else {
@@ -238,7 +236,7 @@ fn end_later(start: Session, out: &mut [u8]) -> Written
         &mut words[..lent],
         &line[..size],
     );
-    let wrote = write_record(out, 0, line_number(number), shown);
+    let wrote = listing_record::write_record(out, 0, listing_record::line_number(number), shown);
     let session = resume(start, next, levels, masks, vps, words);
     Written { session, wrote }
 }
@@ -272,7 +270,8 @@ pub(crate) fn feed_later(
     requires { ⌜ from ≤ length (now chunk) ⌝ }
     requires { ⌜ at ≤ length (now out) ⌝ }
     ensures { λ r. ⌜ FedFrom from at
-        (fed (later (start .number) (stateIn start) []) (drop from (now (chunk .entry))) (length (now (out .entry)) - at))
+        (fed (later (start .number) (stateIn start) []) (drop from (now (chunk .entry)))
+        (length (now (out .entry)) - at))
         r (now (out .entry)) (now (out .exit)) ⌝ }
 {
     let setup = start.setup;
@@ -280,7 +279,7 @@ pub(crate) fn feed_later(
     let mut masks = start.masks;
     let mut vps = records(start);
     let mut words = start.words;
-    let mut line = line_number(start.number);
+    let mut line = listing_record::line_number(start.number);
     let lent = lent_words(&words, start.lent);
     let formed = well_formed(setup, &levels, &masks, &vps, &words[..lent]);
     let mut i = from;
@@ -313,7 +312,7 @@ pub(crate) fn feed_later(
             &mut words[..lent],
             bytes,
         );
-        wrote = write_record(out, wrote, line, shown);
-        line = next_number(line);
+        wrote = listing_record::write_record(out, wrote, line, shown);
+        line = listing_record::next_number(line);
     }
 }

@@ -7,7 +7,7 @@ use Prim.Native.Nat.{ℕ, zero, suc, _<_}
 use native.Mathlib.Omega.{arith}
 use lib.Dec.{ltb, eqb}
 use lib.ListN.{getD, length}
-use Rattle.model.proofs.Bounded.{every-and}
+use Rattle.model.proofs.BoundedLaws.{every-and}
 use Rattle.model.proofs.LevelSets.{none-in}
 use Rattle.model.specs.declared.machine.Shape.{Shape}
 use Rattle.model.specs.declared.machine.VirtualProcessor.{VirtualProcessor}

@@ -24,7 +24,7 @@ use processor::record::Record;
 // The most processors and pages, and the highest level, that a machine may have.
 const MOST_PROCESSORS: u64 = 4;
 
-const HIGHEST_LEVEL: u64 = 3;
+const HIGHEST_MAXIMUM: u64 = 3;
 
 const MOST_PAGES: u64 = 64;
 
@@ -34,7 +34,7 @@ pub(crate) fn in_range(processors: u64, max_level: Level, pages: u64) -> bool
 {
     (1 <= processors)
         & (processors <= MOST_PROCESSORS)
-        & (max_level.0 <= HIGHEST_LEVEL)
+        & (max_level.0 <= HIGHEST_MAXIMUM)
         & (1 <= pages)
         & (pages <= MOST_PAGES)
 }

@@ -16,6 +16,8 @@ ghost use Rattle.state.specs.SecureWord.{wellConfigured};
 use model::machine::BY_INTERRUPT;
 use model::machine::Control;
 use model::machine::Shape;
+use model::quantity::FIRST_VECTOR;
+use model::quantity::HIGHEST_CLASS;
 use model::quantity::Level;
 use model::register::CR0;
 use model::register::PROTECTED_BIT;
@@ -25,24 +27,13 @@ use partition::level::Levels;
 use partition::level::enabled_for;
 use partition::level::mbec_for;
 use processor::control::control_of;
-use processor::record::LEVEL_WORDS;
-use processor::record::LEVELS;
-use processor::record::PENDING;
+use processor::record;
 use processor::record::Record;
-use processor::record::TPR;
-use processor::record::active_of;
-use processor::record::enabled_at;
 use processor::record_registers::private_of;
 use processor::secure::secure_of;
 use word::field::has_bit;
 use word::field::take;
 use word::registers::SecureConfig;
-
-// The highest TPR class.
-const LAST_CLASS: u64 = 15;
-
-// Vectors below this one are never pending: they are the low bits of the first word.
-const FIRST_VECTOR: u32 = 16;
 
 // The word at an offset in a level's row; 0 beyond M.
 fn row_word(shape: Shape, vp: &Record, level: Level, offset: u64) -> u64
@@ -51,7 +42,7 @@ fn row_word(shape: Shape, vp: &Record, level: Level, offset: u64) -> u64
 {
     let words: &[u64] = vp;
     let number = level.0;
-    let i = (LEVELS + LEVEL_WORDS * number + offset) as usize;
+    let i = (record::LEVELS + record::LEVEL_WORDS * number + offset) as usize;
     let word = words[i];
     if is_level(shape, level) {
         return word;
@@ -95,10 +86,10 @@ fn none_pending(shape: Shape, vp: &Record, level: Level) -> bool
     ensures { λ r. ⌜ (let words = context shape (vpOf (now (vp .entry))) (level .0) .pending in
         r ≡ every 4 (λ i. eqb (numberAt 4 words i) 0)) ⌝ }
 {
-    let zero = row_word(shape, vp, level, PENDING) == 0;
-    let one = row_word(shape, vp, level, PENDING + 1) == 0;
-    let two = row_word(shape, vp, level, PENDING + 2) == 0;
-    let three = row_word(shape, vp, level, PENDING + 3) == 0;
+    let zero = row_word(shape, vp, level, record::PENDING) == 0;
+    let one = row_word(shape, vp, level, record::PENDING + 1) == 0;
+    let two = row_word(shape, vp, level, record::PENDING + 2) == 0;
+    let three = row_word(shape, vp, level, record::PENDING + 3) == 0;
     zero & one & two & three
 }
 
@@ -111,17 +102,19 @@ fn well_formed_context(shape: Shape, levels: &Levels, vp: &Record, level: Level)
 {
     let on = enabled_for(shape, levels, level);
     let mbec = mbec_for(shape, levels, level);
-    let enabled = enabled_at(shape, vp, level);
+    let enabled = record::enabled_at(shape, vp, level);
     let control = control_of(shape, vp, level);
-    let entered = well_entered(level, enabled_at(shape, vp, control.from), control);
+    let entered = well_entered(level, record::enabled_at(shape, vp, control.from), control);
     let configured = well_configured_below(shape, vp, level, mbec);
-    let class = row_word(shape, vp, level, TPR);
-    let low = take(row_word(shape, vp, level, PENDING), 0, FIRST_VECTOR);
+    let class = row_word(shape, vp, level, record::TPR);
+    // Vectors below the first are never pending: they are the low bits of the first word.
+    let pending = row_word(shape, vp, level, record::PENDING);
+    let low = take(pending, 0, FIRST_VECTOR as u32);
     let none = none_pending(shape, vp, level);
     (!enabled | on)
         & (!((0 < level.0) & enabled) | entered)
         & configured
-        & (class <= LAST_CLASS)
+        & (class <= HIGHEST_CLASS)
         & (low == 0)
         & (enabled | none)
 }
@@ -131,8 +124,8 @@ pub fn well_formed_vp(shape: Shape, levels: &Levels, vp: &Record) -> bool
     ensures { λ r. ⌜ ((masks : List ℕ) →
         r ≡ wellFormedVp shape (partitionOf (now (levels .entry)) masks) (vpOf (now (vp .entry)))) ⌝ }
 {
-    let lowest = enabled_at(shape, vp, Level(0));
-    let active = enabled_at(shape, vp, active_of(vp));
+    let lowest = record::enabled_at(shape, vp, Level(0));
+    let active = record::enabled_at(shape, vp, record::active_of(vp));
     let zero = well_formed_context(shape, levels, vp, Level(0));
     let one = well_formed_context(shape, levels, vp, Level(1));
     let two = well_formed_context(shape, levels, vp, Level(2));
@@ -145,7 +138,7 @@ fn well_moded(shape: Shape, vp: &Record, level: Level) -> bool
     ensures { λ r. ⌜ (let p = vpOf (now (vp .entry)) in
         r ≡ (enabledAt shape p (level .0) implies bit (privateOf shape p (level .0) cr0) protectedBit)) ⌝ }
 {
-    let enabled = enabled_at(shape, vp, level);
+    let enabled = record::enabled_at(shape, vp, level);
     let protected = has_bit(private_of(shape, vp, level, CR0), PROTECTED_BIT);
     !enabled | protected
 }

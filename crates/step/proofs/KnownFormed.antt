@@ -1,7 +1,6 @@
 -- A step on a state that is known to be well formed or not is the step. Assumes nothing.
 use mathlib.Core.Path.{_≡_, refl}
 use mathlib.Core.Bool.{Bool, true, false, cond, _&&_}
-use Prim.Native.Nat.{_≤_}
 use lib.Dec.{leb}
 use borrow.Author.Tests.{le-leb}
 use Rattle.model.proofs.Formed.{four-processors}

@@ -15,12 +15,6 @@ ghost use Rattle.promise.specs.Promise.{result};
 ghost use Rattle.state.specs.Lent.{lent};
 ghost use Rattle.step.specs.Stepped.{stepIf};
 use access_events::Request;
-use access_events::access;
-use entry_events::ack;
-use entry_events::call;
-use entry_events::envp;
-use entry_events::int;
-use entry_events::ret;
 use level_events::config;
 use level_events::enpart;
 use level_events::protect;
@@ -46,10 +40,6 @@ use register_events::secure;
 use register_events::tpr;
 use register_events::wreg;
 use state::well_formed_state::well_formed;
-use status_events::caps;
-use status_events::flush;
-use status_events::pstat;
-use status_events::vstat;
 
 // What a level does: the processor on which it is active, the mode, and the action.
 struct Operation {
@@ -75,7 +65,8 @@ fn record_count(vps: &[Record; 4]) -> usize
 
 // Does a level hold a TLB lock on this one, if there is a processor with that record?
 fn lock_at(there: bool, shape: Shape, vp: &Record, level: Level) -> bool
-    ensures { λ r. ⌜ r ≡ any 4 (λ t. bit (secureOf shape (cond there (vpOf (now (vp .entry))) noVp) t (level .0)) lockBit) ⌝ }
+    ensures { λ r. ⌜ r
+        ≡ any 4 (λ t. bit (secureOf shape (cond there (vpOf (now (vp .entry))) noVp) t (level .0)) lockBit) ⌝ }
 {
     let held = holds_lock(shape, vp, level);
     there & held
@@ -103,7 +94,8 @@ fn acted(
     operation: Operation,
 ) -> Answer
     requires { ⌜ (setup .processors ≤ 4) × (isIndex (setup .processors) (operation .vp .0) ≡ true) ⌝ }
-    ensures { λ r. ⌜ result r (lent setup (now (levels .exit)) (now (masks .exit)) (now (vps .exit)) (now (words .exit)))
+    ensures { λ r. ⌜ result r
+        (lent setup (now (levels .exit)) (now (masks .exit)) (now (vps .exit)) (now (words .exit)))
         ≡ actedOf (lent setup (now (levels .entry)) (now (masks .entry)) (now (vps .entry)) (now (words .entry)))
         (operation .vp .0) (operation .mode) (operation .action) ⌝ }
 {
@@ -127,17 +119,17 @@ fn acted(
             }
             let j = on.0 as usize;
             let initial = InitialContext { rip, rsp, cr0 };
-            envp(shape, levels, &mut vps[j], actor, mode, target, initial)
+            entry_events::envp(shape, levels, &mut vps[j], actor, mode, target, initial)
         }
-        Action::Call { length } => call(shape, &mut vps[i], mode, length),
-        Action::Ret { length } => ret(shape, &mut vps[i], mode, length),
+        Action::Call { length } => entry_events::call(shape, &mut vps[i], mode, length),
+        Action::Ret { length } => entry_events::ret(shape, &mut vps[i], mode, length),
         Action::Read { page } => {
             let request = Request {
                 mode,
                 page,
                 access: Access::Read,
             };
-            access(setup, &mut vps[i], levels, masks, words, request, 0)
+            access_events::access(setup, &mut vps[i], levels, masks, words, request, 0)
         }
         Action::Write { page, value } => {
             let request = Request {
@@ -145,7 +137,7 @@ fn acted(
                 page,
                 access: Access::Write,
             };
-            access(setup, &mut vps[i], levels, masks, words, request, value)
+            access_events::access(setup, &mut vps[i], levels, masks, words, request, value)
         }
         Action::Fetch { page } => {
             let request = Request {
@@ -153,14 +145,14 @@ fn acted(
                 page,
                 access: Access::Fetch,
             };
-            access(setup, &mut vps[i], levels, masks, words, request, 0)
+            access_events::access(setup, &mut vps[i], levels, masks, words, request, 0)
         }
         Action::Protect { page, mask } => protect(setup, levels, masks, actor, mode, page, mask),
         Action::Config { target, word } => config(setup, levels, masks, actor, mode, target, word),
         Action::Secure { target, word } => secure(shape, levels, &mut vps[i], mode, target, word),
         Action::Flush => {
             let held = locked(setup, vps, actor);
-            flush(held, mode)
+            status_events::flush(held, mode)
         }
         Action::Rreg { target, register } => rreg(shape, &vps[i], mode, target, register),
         Action::Wreg {
@@ -169,10 +161,10 @@ fn acted(
             value,
         } => wreg(shape, &mut vps[i], mode, target, register, value),
         Action::Tpr { class } => tpr(shape, &mut vps[i], mode, class),
-        Action::Ack => ack(shape, &mut vps[i], mode),
-        Action::Pstat => pstat(shape, levels, mode),
-        Action::Vstat => vstat(shape, &vps[i], mode),
-        Action::Caps => caps(shape, mode),
+        Action::Ack => entry_events::ack(shape, &mut vps[i], mode),
+        Action::Pstat => status_events::pstat(shape, levels, mode),
+        Action::Vstat => status_events::vstat(shape, &vps[i], mode),
+        Action::Caps => status_events::caps(shape, mode),
     }
 }
 
@@ -186,8 +178,10 @@ fn ruled(
     event: Event,
 ) -> Answer
     requires { ⌜ setup .processors ≤ 4 ⌝ }
-    ensures { λ r. ⌜ result r (lent setup (now (levels .exit)) (now (masks .exit)) (now (vps .exit)) (now (words .exit)))
-        ≡ ruledOf (lent setup (now (levels .entry)) (now (masks .entry)) (now (vps .entry)) (now (words .entry))) event ⌝ }
+    ensures { λ r. ⌜ result r
+        (lent setup (now (levels .exit)) (now (masks .exit)) (now (vps .exit)) (now (words .exit)))
+        ≡ ruledOf
+        (lent setup (now (levels .entry)) (now (masks .entry)) (now (vps .entry)) (now (words .entry))) event ⌝ }
 {
     match event {
         Event::Made { vp, mode, action } => {
@@ -213,7 +207,7 @@ fn ruled(
             }
             record_count(vps);
             let j = on.0 as usize;
-            int(setup.shape, &mut vps[j], target, vector)
+            entry_events::int(setup.shape, &mut vps[j], target, vector)
         }
     }
 }
@@ -229,8 +223,10 @@ pub fn step_if(
     words: &mut [u64],
     event: Event,
 ) -> Answer
-    ensures { λ r. ⌜ result r (lent setup (now (levels .exit)) (now (masks .exit)) (now (vps .exit)) (now (words .exit)))
-        ≡ stepIf formed (lent setup (now (levels .entry)) (now (masks .entry)) (now (vps .entry)) (now (words .entry))) event ⌝ }
+    ensures { λ r. ⌜ result r
+        (lent setup (now (levels .exit)) (now (masks .exit)) (now (vps .exit)) (now (words .exit)))
+        ≡ stepIf formed
+        (lent setup (now (levels .entry)) (now (masks .entry)) (now (vps .entry)) (now (words .entry))) event ⌝ }
 {
     if formed {
         if setup.processors <= 4 {
@@ -249,8 +245,10 @@ pub fn step(
     words: &mut [u64],
     event: Event,
 ) -> Answer
-    ensures { λ r. ⌜ result r (lent setup (now (levels .exit)) (now (masks .exit)) (now (vps .exit)) (now (words .exit)))
-        ≡ stepOf (lent setup (now (levels .entry)) (now (masks .entry)) (now (vps .entry)) (now (words .entry))) event ⌝ }
+    ensures { λ r. ⌜ result r
+        (lent setup (now (levels .exit)) (now (masks .exit)) (now (vps .exit)) (now (words .exit)))
+        ≡ stepOf
+        (lent setup (now (levels .entry)) (now (masks .entry)) (now (vps .entry)) (now (words .entry))) event ⌝ }
 {
     let formed = well_formed(setup, levels, masks, vps, words);
     step_if(formed, setup, levels, masks, vps, words, event)

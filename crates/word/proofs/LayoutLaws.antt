@@ -62,9 +62,9 @@ put-field o k w =
     rw (field-end, div-eq-of-lt (wider o k (mod-lt w (pow-pos o))), zero-mul, zero-add, mod-mod, mod-mod)
 
 -- Two tests that hold together hold.
-both : (first second : Bool) → (first && second) ≡ true → (first ≡ true) × (second ≡ true)
-both true b h = (refl, h)
-both false b h = absurd (false≢true h)
+and-parts : (first second : Bool) → (first && second) ≡ true → (first ≡ true) × (second ≡ true)
+and-parts true b h = (refl, h)
+and-parts false b h = absurd (false≢true h)
 
 -- Where the reserved fields are 0, the used ones are the whole word up to the layout's end.
 pack-unpack-from : (offset : ℕ) (layout : Layout) (word : ℕ) → reservedClearFrom offset layout word ≡ true
@@ -72,7 +72,7 @@ pack-unpack-from : (offset : ℕ) (layout : Layout) (word : ℕ) → reservedCle
 pack-unpack-from o [] w h = rw add-zero
 pack-unpack-from o (used k ∷ layout) w h = rw (put-field, ← add-assoc) (pack-unpack-from (o + k) layout w h)
 pack-unpack-from o (reserved k ∷ layout) w h =
-    let clear = both (eqb (field o k w) 0) _ h in
+    let clear = and-parts (eqb (field o k w) 0) _ h in
     let same : w % 2 ^ (o + k) ≡ w % 2 ^ o = rw (field-end, eqb-true (field o k w) 0 (clear .0), zero-mul, zero-add) in
     rw (← same, ← add-assoc) (pack-unpack-from (o + k) layout w (clear .1))
 

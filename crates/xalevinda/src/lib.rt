@@ -5,7 +5,6 @@ ghost use Rattle.decimal.specs.Write.{withText};
 ghost use Rattle.listing.specs.Listing.{listing};
 ghost use Rattle.word.specs.RegisterFields.{fieldOf, withField};
 ghost use Rattle.xalevinda.specs.Exports.{sizeOf};
-use session::LONGEST_RECORD;
 
 mod written; // a listing written into a buffer
 
@@ -17,7 +16,7 @@ pub extern "C" fn xalevinda_listing(script: &[u8], out: &mut [u8]) -> usize
     ensures size { λ r. ⌜ r ≡ sizeOf (listing (now (script .entry))) ⌝ }
     ensures out { λ _. ⌜ now (out .exit) ≡ withText (now (out .entry)) 0 (listing (now (script .entry))) ⌝ }
 {
-    if written::line_feeds(script) < out.len() / LONGEST_RECORD {
+    if written::line_feeds(script) < out.len() / session::LONGEST_RECORD {
         return written::write(script, out);
     }
     let mut nothing = [0u8; 0];

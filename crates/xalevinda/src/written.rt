@@ -8,7 +8,6 @@ ghost use Rattle.listing.specs.Listing.{listing};
 ghost use Rattle.script.specs.Records.{linesIn};
 ghost use Rattle.xalevinda.specs.Exports.{atMostWord};
 ghost use Rattle.xalevinda.specs.StoredListing.{Stored};
-use session::LONGEST_RECORD;
 
 // The records of a piece of the script, before they are put into the caller's buffer: few pieces, and little to clear.
 fn piece() -> [u8; 65536]
@@ -73,7 +72,7 @@ pub(crate) fn write(script: &[u8], out: &mut [u8]) -> usize
         let next = fed.session;
         s = next;
     }
-    let mut last = [0u8; LONGEST_RECORD];
+    let mut last = [0u8; session::LONGEST_RECORD];
     let wrote = session::finish(s, &mut last);
     put(out, size, &last[..wrote]);
     added(size, wrote)

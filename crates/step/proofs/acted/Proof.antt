@@ -1,6 +1,6 @@
 -- `acted` meets its contract: each function says what the rule gives of the parts that it is given. Assumes nothing.
 use mathlib.Core.Path.{_≡_, refl, sym, ap, _∙_}
-use mathlib.Core.Bool.{Bool, true, false, not}
+use mathlib.Core.Bool.{Bool, true}
 use mathlib.Core.List.{List, []}
 use Prim.Native.Nat.{ℕ, _<_}
 use lib.ListN.{getD, set}
@@ -12,14 +12,14 @@ use Rattle.model.specs.declared.quantity.Mode.{Mode}
 use Rattle.model.specs.declared.quantity.Processor.{Processor}
 use Rattle.model.specs.Events.{locked}
 use Rattle.model.specs.State.{State, processors, shape, partition, isIndex, isProcessor, activeOf, active}
-use Rattle.model.specs.Step.{Outcome, acted}
+use Rattle.model.specs.Step.{acted}
 use Rattle.model.specs.Updates.{putVp, putPartition}
 use Rattle.partition.specs.PartitionView.{partitionOf}
 use Rattle.access_events.specs.Access.{putAccess}
 use Rattle.processor.specs.Record.{vpOf}
 use Rattle.promise.specs.Promise.{result, Runs, Acts, Lends}
 use Rattle.state.specs.Lent.{machineOf, lent}
-use Rattle.step.proofs.LentParts.{index-low, lends, shaped, keeps, there, runs, acting, acts, record-left, access-left, partition-left}
+use Rattle.step.proofs.LentParts.{index-low, lends, shaped, keeps, there, runs, acts, record-left, access-left, partition-left}
 use Rattle.step.proofs.MissingProcessor.{no-second}
 use borrow.Author.Needs.{needs}
 use Rattle.step.proofs.acted.Statement.{statement}

@@ -1,7 +1,6 @@
 -- `locked` meets its contract: the four places one by one. Assumes nothing.
-use mathlib.Core.Path.{_≡_, refl, sym}
-use mathlib.Core.Bool.{Bool, true, false, cond, _&&_}
-use lib.Dec.{ltb}
+use mathlib.Core.Path.{_≡_, refl}
+use mathlib.Core.Bool.{Bool, true, false, _&&_}
 use Rattle.model.specs.Bounded.{any}
 use Rattle.model.specs.Events.{locked}
 use Rattle.model.specs.State.{processors, shape, vp, isProcessor}

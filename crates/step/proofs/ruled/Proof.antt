@@ -1,7 +1,7 @@
 -- `ruled` meets its contract: without its processor or its mode an event is malformed, and else its function says what the rule gives.
 -- Assumes nothing.
-use mathlib.Core.Path.{_≡_, refl, sym, ap, _∙_}
-use mathlib.Core.Bool.{true, not}
+use mathlib.Core.Path.{_≡_, sym, ap, _∙_}
+use mathlib.Core.Bool.{true}
 use Prim.Native.Nat.{_<_}
 use native.Mathlib.Omega.{arith}
 use borrow.Author.Tests.{not-false, not-true, lt-ltb, le-ltb}

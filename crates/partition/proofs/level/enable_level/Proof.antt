@@ -1,5 +1,4 @@
 -- `level::enable_level` meets its contract: both sets are replaced. Assumes nothing.
-use lib.ListN.{length-set}
 use borrow.Author.Needs.{needs}
 use Rattle.partition.proofs.PartitionWords.{level-enabled}
 use Rattle.partition.proofs.level.enable_level.Statement.{statement}

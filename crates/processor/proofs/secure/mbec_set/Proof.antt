@@ -1,5 +1,6 @@
 -- `secure::mbec_set` meets its contract, level by level. Assumes nothing.
-use Rattle.processor.proofs.RecordLevels.{upper-bits, none-held}
+use Rattle.model.proofs.Sets.{upper-bits}
+use Rattle.processor.proofs.RecordLevels.{none-held}
 use borrow.Author.Needs.{needs}
 use Rattle.processor.proofs.secure.mbec_set.Statement.{statement}
 use Rattle.processor.proofs.secure.mbec_set.Tie as tie

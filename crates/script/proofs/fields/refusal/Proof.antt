@@ -1,6 +1,5 @@
 -- `script::fields::refusal` meets its contract: by its test.
 -- Assumes nothing.
-use mathlib.Core.Path.{sym, _∙_}
 use borrow.Author.Needs.{needs}
 use borrow.Author.Tests.{eq-eqb, ne-eqb}
 use Rattle.script.proofs.fields.refusal.Statement.{statement}

@@ -1,6 +1,5 @@
 -- `session::listing_record::line_number` meets its contract: the digits before the last are those of the number's tenth. Assumes nothing.
 use mathlib.Core.Path.{refl}
-use borrow.Author.Needs.{needs}
 use native.Mathlib.Omega.{arith}
 use Rattle.session.proofs.listing_record.line_number.Statement.{statement}
 use Rattle.session.proofs.listing_record.line_number.Tie as tie

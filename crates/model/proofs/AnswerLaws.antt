@@ -8,24 +8,16 @@ use Prim.Native.Nat.{ℕ, _≤_, _<_}
 use native.Mathlib.Omega.{arith}
 use lib.Dec.{leb, ltb, eqb}
 use borrow.Author.Tests.{leb-true, leb-false, ltb-true, eqb-true, eqb-false, eq-eqb}
-use Rattle.model.specs.declared.answer.Answer.{Answer}
-use Rattle.model.specs.declared.answer.Answer.the-variants.{Done, Refused, Intercept}
-use Rattle.model.specs.declared.answer.Refusal.{Refusal}
 use Rattle.model.specs.declared.answer.Refusal.the-variants as refusal
-use Rattle.model.specs.declared.event.Event.{Event}
-use Rattle.model.specs.declared.event.Action.the-variants.{Enpart, Envp, Call, Ret, Read, Write, Fetch, Protect, Config, Secure, Flush, Rreg, Wreg, Tpr, Ack, Pstat, Vstat, Caps}
-use Rattle.model.specs.declared.event.Event.the-variants.{Made, Int}
-use Rattle.model.specs.declared.quantity.Access.{Access}
-use Rattle.model.specs.declared.quantity.Mode.{Mode}
-use Rattle.model.specs.Answers.{refusalNumber, numberOf, valueOf, _when_, firstOf}
+use Rattle.model.specs.Answers.{Answer, Done, Refused, Intercept, Refusal, refusalNumber, numberOf, valueOf, _when_, firstOf}
 use Rattle.model.specs.Claims.{conditions, rises, applies, Rising, Smallest, Unchanged, Entered, OnlyEntered}
 use Rattle.model.specs.Events.{byAccess}
 use Rattle.model.specs.Memory.{deniesIn, denies, receiver}
-use Rattle.model.specs.State.{State, processors, level, active, enabledOn}
-use Rattle.model.specs.Step.{Outcome, rule, ruleOf, maker, modeOf, intercepted, nextFor, ruled, step}
+use Rattle.model.specs.State.{State, Access, Mode, processors, level, active, enabledOn}
+use Rattle.model.specs.Step.{Event, Enpart, Envp, Call, Ret, Read, Write, Fetch, Protect, Config, Secure, Flush, Rreg, Wreg, Tpr, Ack, Pstat, Vstat, Caps, Made, Int, Outcome, rule, ruleOf, maker, modeOf, intercepted, nextFor, ruled, step}
 use Rattle.model.specs.WellFormed.{wellFormed}
 use Rattle.model.proofs.Bools.{and-left, and-right, or-elim}
-use Rattle.model.proofs.Bounded.{least-found}
+use Rattle.model.proofs.BoundedLaws.{least-found}
 
 -- Lists of conditions.
 -- No condition applies.

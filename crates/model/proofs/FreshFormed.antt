@@ -1,34 +1,26 @@
 -- The fresh machine of an admissible first line is well formed. Assumes nothing.
-use mathlib.Core.Path.{_≡_, refl, sym, ap, _∙_}
+use mathlib.Core.Path.{_≡_, refl, sym, _∙_}
 use mathlib.Core.Bool.{Bool, true, false, not, _&&_, false≢true, and-false}
 use Prim.Native.Nat.{ℕ, zero, suc, _+_, _*_, _≤_, _<_}
 use native.Mathlib.Omega.{arith}
 use lib.Dec.{leb, ltb, eqb, leb·zero}
 use lib.ListN.{length, getD, replicate, length-replicate, getD-replicate}
 use borrow.Author.Tests.{ltb-true, leb-true, eq-eqb, ne-eqb}
-use Rattle.model.specs.declared.machine.FirstLine.{FirstLine}
 use Rattle.model.specs.Arrays.{numberAt}
 use Rattle.model.specs.Bounded.{every, allOf}
 use Rattle.model.specs.Claims.{FreshWellFormed}
 use Rattle.model.specs.Fresh.{admissible, levelZeroAlone, freshVp, fresh}
 use Rattle.model.specs.Masks.{validMask, defaultMask, turnsOn, reservedSet}
-use Rattle.model.specs.State.{inRange, isLevel, inSet, isProcessor, noContext, pastContext, processors, shape, top, maxLevel, pages, partition, vp, context, activeOf, enabledAt, enabledOn, enabledFor, mbecFor, configIn, configOf, maskIn, maskOf}
+use Rattle.model.specs.State.{FirstLine, inRange, isLevel, inSet, isProcessor, noContext, pastContext, processors, shape, top, maxLevel, pages, partition, vp, context, activeOf, enabledAt, enabledOn, enabledFor, mbecFor, configIn, configOf, maskIn, maskOf}
 use Rattle.model.specs.WellFormed.{wellSized, wellFormedContext, wellFormedVp, wellFormedLevel, wellFormedParts, wellModedVp, wellModed, wellFormed}
-use Rattle.model.proofs.Bools.{and-left, and-right, both, implies-test, hold, all-hold, cond-same, cond-holds}
-use Rattle.model.proofs.Bounded.{every-all}
+use Rattle.model.proofs.Bools.{and-left, and-right, and-both, implies-test, hold, all-hold, cond-same, cond-holds}
+use Rattle.model.proofs.BoundedLaws.{every-all}
+use Rattle.model.proofs.Four.{below-four}
 use Rattle.model.proofs.LevelSets.{none-in}
-
--- What holds of 0, 1, 2 and 3 holds of each number up to 3.
-up-to-three : (P : ℕ → Type 0) → P 0 → P 1 → P 2 → P 3 → (n : ℕ) → n ≤ 3 → P n
-up-to-three P a b c d zero h = a
-up-to-three P a b c d (suc zero) h = b
-up-to-three P a b c d (suc (suc zero)) h = c
-up-to-three P a b c d (suc (suc (suc zero))) h = d
-up-to-three P a b c d (suc (suc (suc (suc n)))) h = absurd (omega arith)
 
 context-ok : (mbec fromOn : Bool) (l : ℕ) → l ≤ 3 → wellFormedContext l (eqb l 0) (eqb l 0) mbec fromOn noContext ≡ true
 unfolding wellFormedContext numberAt every allOf
-context-ok mbec fromOn = up-to-three (λ l. wellFormedContext l (eqb l 0) (eqb l 0) mbec fromOn noContext ≡ true) refl refl refl refl
+context-ok mbec fromOn l h = below-four (λ l. wellFormedContext l (eqb l 0) (eqb l 0) mbec fromOn noContext ≡ true) refl refl refl refl l (omega (arith, h))
 
 -- What holds of an entry and of 0 holds of what is read from a list of such entries.
 replicated : (P : ℕ → Type 0) (k : ℕ) → P k → P 0 → (n i : ℕ) → P (getD (replicate n k) i 0)
@@ -53,7 +45,7 @@ module _ (f : FirstLine) where
   -- Level 0 alone is enabled.
   zero-alone : (l : ℕ) → l ≤ 3 → inSet (shape (fresh f)) levelZeroAlone l ≡ eqb l 0
   unfolding inSet
-  zero-alone = up-to-three (λ l. inSet (shape (fresh f)) levelZeroAlone l ≡ eqb l 0) (rw (inSet, is-zeroth)) (and-false (isLevel _ 1)) (and-false (isLevel _ 2)) (and-false (isLevel _ 3))
+  zero-alone l h = below-four (λ l. inSet (shape (fresh f)) levelZeroAlone l ≡ eqb l 0) (rw (inSet, is-zeroth)) (and-false (isLevel _ 1)) (and-false (isLevel _ 2)) (and-false (isLevel _ 3)) l (omega (arith, h))
 
   enabled-fresh : (l : ℕ) → l ≤ 3 → enabledFor (fresh f) l ≡ eqb l 0
   unfolding enabledFor partition fresh
@@ -123,8 +115,8 @@ fresh-well-formed f h =
     let rest = and-left (sizes && leb (f .«dr6_shared») 1) (validMask (f .«host_mask»)) h in
     let host = and-right (sizes && leb (f .«dr6_shared») 1) (validMask (f .«host_mask»)) h in
     let lent : eqb (length {A = ℕ} (replicate (f .pages) 0)) (f .pages) ≡ true = eq-eqb _ _ (length-replicate {A = ℕ} (f .pages) 0) in
-    both (wellSized (fresh f) && wellFormedParts (fresh f)) (wellModed (fresh f))
-    (both (wellSized (fresh f)) (wellFormedParts (fresh f)) (both sizes _ (and-left sizes (leb (f .«dr6_shared») 1) rest) lent) (parts-ok f host))
+    and-both (wellSized (fresh f) && wellFormedParts (fresh f)) (wellModed (fresh f))
+    (and-both (wellSized (fresh f)) (wellFormedParts (fresh f)) (and-both sizes _ (and-left sizes (leb (f .«dr6_shared») 1) rest) lent) (parts-ok f host))
     (modes-ok f)
 
 -- A first line that is admissible has at most 64 pages.
