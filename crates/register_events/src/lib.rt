@@ -17,7 +17,9 @@ use model::machine::Shape;
 use model::quantity;
 use model::quantity::Level;
 use model::quantity::Mode;
-use model::register;
+use model::register::CR0;
+use model::register::LAST_REGISTER;
+use model::register::PROTECTED_BIT;
 use partition::config::secure_reserved_set;
 use partition::level::Levels;
 use partition::level::mbec_for;
@@ -79,7 +81,7 @@ pub fn rreg(shape: Shape, vp: &Record, mode: Mode, target: Level, register: u64)
     if quantity::HIGHEST_LEVEL < target.0 {
         return Answer::Refused(Refusal::LevelOutOfRange);
     }
-    if register::LAST_REGISTER < register {
+    if LAST_REGISTER < register {
         return Answer::Refused(Refusal::NoSuchRegister);
     }
     if quantity::is_user(mode) {
@@ -113,11 +115,11 @@ pub fn wreg(
     if quantity::HIGHEST_LEVEL < target.0 {
         return Answer::Refused(Refusal::LevelOutOfRange);
     }
-    if register::LAST_REGISTER < register {
+    if LAST_REGISTER < register {
         return Answer::Refused(Refusal::NoSuchRegister);
     }
-    let real = !has_bit(value, register::PROTECTED_BIT);
-    if (register == register::CR0) & (0 < target.0) & real {
+    let real = !has_bit(value, PROTECTED_BIT);
+    if (register == CR0) & (0 < target.0) & real {
         return Answer::Refused(Refusal::Cr0InRealMode);
     }
     if quantity::is_user(mode) {
