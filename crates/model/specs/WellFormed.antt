@@ -31,8 +31,9 @@ wellEntered l fromOn k = allOf (
     ∷ [])
 
 -- What a processor holds of level l, where the partition has the level enabled as `on` tells, the processor as `enabled` does,
--- and the partition has MBEC for it as `mbec` tells. A processor's enabled levels are within the partition's; its MBEC only where the partition has it for the setting level. TPR in
--- range; pending vectors only 16..255 (0..15 are the low 16 bits of the first word) and only at enabled levels.
+-- and the partition has MBEC for it as `mbec` tells. A processor's enabled levels are within the partition's; its MBEC only
+-- where the partition has it for the setting level. TPR in range; pending vectors only 16..255 (0..15 are the low 16 bits of
+-- the first word) and only at enabled levels.
 unfoldable pub wellFormedContext : ℕ → Bool → Bool → Bool → Bool → Context → Bool
 wellFormedContext l on enabled mbec fromOn c = allOf (
     (enabled implies on)

@@ -1,6 +1,6 @@
-// The nineteen events. One made by a level says the processor, on which that level is active, the mode, 0 for kernel and 1 for user, and what
-// the level does; one from outside says only what happens. A field holds the number as it was given: a number out of range is refused by the
-// event's rule.
+// The nineteen events. One that a level makes has the processor on which that level is active, the mode (0 kernel, 1 user) and
+// what the level does; one from outside has only what happens. A field holds the number as it was given: a number out of range
+// is refused by the event's rule.
 use crate::quantity::Level;
 use crate::quantity::Page;
 use crate::quantity::Processor;
