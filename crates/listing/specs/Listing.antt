@@ -4,16 +4,12 @@ use mathlib.Core.Bool.{cond}
 use mathlib.Core.List.{List, [], _∷_, _++_}
 use mathlib.Core.Option.{Option, none, some}
 use Prim.Native.Nat.{ℕ, _+_, _%_, _^_}
-use lib.Dec.{eqb}
 use Rattle.model.specs.Answers.{numberOf, valueOf}
 use Rattle.model.specs.Fresh.{admissible, fresh}
-use Rattle.model.specs.State.{State, active}
-use Rattle.model.specs.Step.{Outcome}
+use Rattle.model.specs.LevelColumn.{levelColumn, processorOf}
+use Rattle.model.specs.State.{State}
 use Rattle.model.specs.declared.answer.Answer.{Answer}
 use Rattle.model.specs.declared.answer.Answer.the-variants.{Refused}
-use Rattle.model.specs.declared.event.Event.{Event}
-use Rattle.model.specs.declared.event.Event.the-variants.{Made, Int}
-use Rattle.model.specs.declared.quantity.Processor.{Processor}
 use Rattle.script.specs.EventForms.{lineEvent}
 use Rattle.script.specs.First.{lineFirst}
 use Rattle.script.specs.ListingLine.{listingLine}
@@ -23,15 +19,6 @@ use Rattle.script.specs.declared.Parsed.the-variants as parsed
 use Rattle.script.specs.declared.Start.{Start}
 use Rattle.script.specs.declared.Start.the-variants as start
 use Rattle.model.specs.Step.{step}
-
--- The processor that the level column is about: v, or w where no v is named.
-abbrev pub processorOf : Event → Processor
-processorOf (Made v mode a) = v
-processorOf (Int w g vector) = w
-
--- The level now active on that processor, and 0 for answer 1.
-abbrev pub levelColumn : Outcome → Processor → ℕ
-levelColumn o v = cond (eqb (numberOf (o .answer)) 1) 0 (active (o .next) (v .0))
 
 -- What a line after the first is answered, its level column, and the next state.
 pub record Answered : Type 0 where

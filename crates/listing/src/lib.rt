@@ -2,7 +2,7 @@
 // numbers of an answer. Every function takes any arguments.
 ghost use mathlib.Core.Path.{_≡_};
 ghost use Rattle.model.specs.Answers.{refusalNumber};
-ghost use Rattle.listing.specs.Listing.{processorOf};
+ghost use Rattle.model.specs.LevelColumn.{processorOf};
 ghost use Rattle.listing.specs.Answer.{levelOn, levelShown, shownOf};
 use model::answer::Answer;
 use model::answer::Refusal;

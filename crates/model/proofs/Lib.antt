@@ -15,5 +15,6 @@ pub mod Whole  -- hiding and the whole state
 pub mod Formed  -- what a well-formed state has
 pub mod Steps  -- a step commutes with hiding
 pub mod Moves  -- what a step leaves as it was
+pub mod Readings  -- two readings that go wrong
 pub mod Sound  -- a well-formed processor stays so
 pub mod Keeps  -- a step keeps a state well formed

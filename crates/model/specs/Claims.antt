@@ -5,12 +5,14 @@ use mathlib.Core.List.{List, [], _∷_, map}
 use mathlib.Core.Option.{some}
 use Prim.Native.Nat.{ℕ, _≤_, _<_}
 use lib.Dec.{leb, eqb}
+use lib.ListN.{length}
 use Rattle.model.specs.Answers.{Answer, Refusal, numberOf, valueOf, _when_}
 use Rattle.model.specs.Cases.{cases, given, expected}
-use Rattle.model.specs.Entry.{enter, byInterrupt}
+use Rattle.model.specs.Entry.{enter, enters, waiting, byInterrupt}
 use Rattle.model.specs.Fresh.{admissible, fresh}
-use Rattle.model.specs.State.{State, FirstLine, processors, active, enabledOn}
-use Rattle.model.specs.Updates.{onVp}
+use Rattle.model.specs.Registers.{rflags, rax, registerOf}
+use Rattle.model.specs.State.{State, FirstLine, Shape, VirtualProcessor, processors, active, enabledOn}
+use Rattle.model.specs.Updates.{onVp, setPrivate, setRegister}
 use Rattle.model.specs.Step.{Event, Outcome, rule, maker, step}
 use Rattle.model.specs.WellFormed.{wellFormed}
 
@@ -61,6 +63,14 @@ FreshWellFormed = (f : FirstLine) → admissible f ≡ true → wellFormed (fres
 -- A step from a well-formed state leads to one.
 abbrev pub StepKeeps : Type 0
 StepKeeps = (s : State) (e : Event) → wellFormed s ≡ true → wellFormed (step s e .next) ≡ true
+
+-- Registers 13 to 31 are shared by all levels of a processor, XMM0 among them: what one level writes, every level reads.
+abbrev pub SharedByAll : Type 0
+SharedByAll = (z : Shape) (p : VirtualProcessor) (l m r x : ℕ) → length (p .shared) ≡ 20 → rax ≤ r → r ≤ 31 → registerOf z (setRegister z p l r x) m r ≡ x
+
+-- RFLAGS.IF plays no part (001): whatever RFLAGS a level has, an interrupt enters the same level, and so does a return.
+abbrev pub FlagsPlayNoPart : Type 0
+FlagsPlayNoPart = (z : Shape) (p : VirtualProcessor) (l x g n : ℕ) → (enters z (setPrivate z p l rflags x) g n ≡ enters z p g n) × (waiting z (setPrivate z p l rflags x) ≡ waiting z p)
 
 -- The eight proved cases.
 abbrev pub AllGiven : Type 0

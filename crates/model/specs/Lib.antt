@@ -11,6 +11,7 @@ pub mod Entry  -- entry, call, return and interrupts on one processor
 pub mod Memory  -- the access decision
 pub mod Events  -- the rule of each event
 pub mod Step  -- one step, and a run
+pub mod LevelColumn  -- the level column of the listing
 pub mod MapAt  -- a map that sees the place
 pub mod Hide  -- what is hidden from the levels below K
 pub mod Cases  -- the eight proved cases

@@ -37,7 +37,8 @@ use Rattle.step.specs.Stepped.{stepIf}
 use Rattle.session.specs.declared.Phase.{Phase}
 use Rattle.session.specs.declared.Phase.the-variants as phase
 use Rattle.listing.specs.Answer.{levelOn, levelShown, shownBy, shownOf}
-use Rattle.listing.specs.Listing.{answered, levelColumn, numberAfter, processorOf, recordOf, stateBy}
+use Rattle.listing.specs.Listing.{answered, numberAfter, recordOf, stateBy}
+use Rattle.model.specs.LevelColumn.{levelColumn, processorOf}
 use Rattle.session.specs.SessionParts.{blankIn, hasStopped, isLater}
 use Rattle.session.specs.Session.{Progress, begun, continued, ended, extended, first, isStopped, kept, lastText, later, lentOf, progressIn, roomFor, stopped}
 use Rattle.chunk.specs.Chunk.{held}

@@ -69,7 +69,8 @@ pub fn stopped(session: Session) -> bool
 }
 
 // Uses as much of a chunk as `out` has room for the records of, and says how much that was: no line is ended while the longest
-// record has no room. A line that lies whole in the chunk is not copied.
+// record has no room. A line that lies whole in the chunk is not copied. Every byte of `out` is fixed; of the session its progress is, and
+// the bytes of its buffer beyond the line and the words beyond the pages, which nothing reads, are left open.
 pub fn feed(start: Session, chunk: &[u8], out: &mut [u8]) -> Fed
     ensures session { λ r. ⌜ progressOf (r .session)
         ≡ fed (progressOf start) (now (chunk .entry)) (length (now (out .entry))) .progress ⌝ }
