@@ -2,6 +2,7 @@
 // name and the listing of each; the name - stands for standard input.
 ghost use mathlib.Core.Path.{_≡_};
 ghost use lib.ListN.{length};
+ghost use Rattle.bench.specs.Names.{isInput};
 
 mod shell; // a script read, and its listing written
 
@@ -13,7 +14,9 @@ fn name_buffer() -> [u8; 4096]
 }
 
 // Is a name the one that stands for standard input?
-fn is_input(name: &[u8]) -> bool {
+fn is_input(name: &[u8]) -> bool
+    ensures { λ r. ⌜ r ≡ isInput (now (name .entry)) ⌝ }
+{
     if name.len() == 1 {
         return name[0] == b'-';
     }

@@ -1,24 +1,30 @@
-// Reads a script from a descriptor and writes its listing to standard output, over the proved session. Which bytes the C library
-// moves no contract can say; so this is kept as thin as it can be.
+// Reads a script from a descriptor and writes its listing to standard output, over the proved session. What is fed to the session and
+// which bytes are handed to the C library is proved; which of them it moves no contract can say.
+ghost use mathlib.Core.Bool.{not, _&&_};
 ghost use mathlib.Core.Path.{_≡_};
-ghost use lib.ListN.{length};
+ghost use Prim.Native.Nat.{_≤_};
+ghost use lib.Dec.{eqb};
+ghost use lib.ListN.{length, take};
+ghost use Rattle.session.specs.Session.{consumed, fed, isStopped, lastText, progressOf};
 use session::Session;
 
 // The bytes that are read at once, and as many that are written at once. What is done once a call is then spread over thousands of
 // lines.
-fn buffer() -> [u8; 65536]
+const BUFFER: usize = 65536;
+
+fn buffer() -> [u8; BUFFER]
     ensures { λ r. ⌜ 65536 ≡ length r ⌝ }
 {
-    [0; 65536]
+    [0; BUFFER]
 }
 
-// The session after a chunk, and whether to read on.
+// The session after so many bytes of a chunk.
 struct Turned {
     session: Session,
-    goes_on: bool,
+    used: usize,
 }
 
-// Writes bytes to standard output, or says that it cannot.
+// Writes bytes to standard output, or says that it cannot. Whether they are written is up to the C library: so the answer is open.
 fn write(bytes: &[u8]) -> bool {
     let written = io::write_all(1, bytes);
     if !written {
@@ -27,39 +33,61 @@ fn write(bytes: &[u8]) -> bool {
     written
 }
 
-// Feeds a chunk and writes the records that come of it, so many at a time as have room. After a refused first line nothing further is
-// read. Every turn uses a byte at least (`some-used` of session), so that the turns are no more than the bytes.
-fn turn(start: Session, chunk: &[u8], out: &mut [u8]) -> Turned {
+// Writes the records that come of a piece of a chunk. The session before the piece, and what was left of the chunk, only say which
+// records these must be.
+fn write_records(before: Session, rest: &[u8], records: &[u8]) -> bool
+    requires { ⌜ now records ≡ fed (progressOf before) (now rest) 65536 .text ⌝ }
+{
+    write(records)
+}
+
+// Writes the last record. The session only says which record it must be.
+fn write_last(before: Session, last: &[u8]) -> bool
+    requires { ⌜ now last ≡ lastText (progressOf before) ⌝ }
+{
+    write(last)
+}
+
+// Feeds a chunk and writes the records that come of it, so many at a time as have room. All of the chunk is used unless a write fails;
+// then the piece whose records were not written is not used, and neither is what follows it.
+fn turn(start: Session, chunk: &[u8], out: &mut [u8; BUFFER]) -> Turned
+    ensures used { λ r. ⌜ r .used ≤ length (now (chunk .entry)) ⌝ }
+    ensures session { λ r. ⌜ progressOf (r .session)
+        ≡ consumed (progressOf start) (take (r .used) (now (chunk .entry))) .progress ⌝ }
+{
+    let records: &mut [u8] = out;
     let mut s = start;
     let mut from: usize = 0;
-    let mut turns = chunk.len();
-    while turns > 0 {
-        let fed = session::feed(s, &chunk[from..], out);
+    while from < chunk.len() {
+        let rest = &chunk[from..];
+        let fed = session::feed(s, rest, records);
         let wrote = fed.wrote;
+        if !write_records(s, rest, &records[..wrote]) {
+            break;
+        }
         from += fed.used;
         let next = fed.session;
         s = next;
-        let written = write(&out[..wrote]);
-        let stopped = session::stopped(s);
-        if !written | (from == chunk.len()) {
-            return Turned {
-                session: s,
-                goes_on: written & !stopped,
-            };
-        }
-        turns -= 1;
     }
     Turned {
         session: s,
-        goes_on: true,
+        used: from,
     }
 }
 
-// The input has ended: writes the record of a last line that lacks its line feed.
+// Whether to read on after a chunk: all of it was used, and the session has not stopped. After a refused first line nothing is read.
+fn goes_on(after: Turned, size: usize) -> bool
+    ensures { λ r. ⌜ r ≡ (eqb (after .used) size && not (isStopped (progressOf (after .session)))) ⌝ }
+{
+    let session = after.session;
+    (after.used == size) & !session::stopped(session)
+}
+
+// The input has ended: writes the record of a last line that lacks its line feed, or of an empty input.
 fn close(current: Session) {
     let mut last = [0u8; session::LONGEST_RECORD];
     let wrote = session::finish(current, &mut last);
-    write(&last[..wrote]);
+    write_last(current, &last[..wrote]);
 }
 
 // Reads the script from the descriptor to its end and writes its listing. A read or a write that fails is told on standard error,
@@ -80,7 +108,7 @@ pub(crate) fn run(descriptor: i32) {
             break;
         }
         let after = turn(s, &chunk[..n], &mut out);
-        if !after.goes_on {
+        if !goes_on(after, n) {
             return;
         }
         let next = after.session;

@@ -17,10 +17,10 @@ use Rattle.script.specs.First.{lineFirst}
 use Rattle.script.specs.LineForms.{among, fields, numbersIn, said}
 use Rattle.chunk.specs.Chunk.{keptBytes}
 use Rattle.script.specs.ListingLine.{lineFeed, longestRecord}
-use Rattle.session.specs.Calls.{Call, Whole, calls}
+use Rattle.session.specs.Calls.{Call, Consumed, Cut, Reached, Whole, calls}
 use Rattle.listing.specs.Listing.{answered, firstDone, laterRecords, listing, listingFrom, listingOf, numberAfter, recordOf, stateBy}
 use Rattle.script.specs.Records.{Lines, inFront, lastLine, lines, linesIn}
-use Rattle.session.specs.Session.{Ended, Feeding, Progress, begun, ended, extended, fed, fedLines, first, followed, kept, lastText, later, roomFor, stopped}
+use Rattle.session.specs.Session.{Ended, Feeding, Progress, after, begun, consumed, consumedLines, ended, extended, fed, fedLines, finished, first, followed, kept, lastText, later, roomFor, stopped}
 use Rattle.chunk.proofs.ChunkLines.{joined, lines-joined, withLine}
 use Rattle.session.proofs.Ending.{ended-kept}
 
@@ -91,7 +91,7 @@ ended-twice : (p : Progress) (line more : List ℕ) → ended (extended (kept (e
 ended-twice p line more =
     sym (ended-kept (extended (kept (extended p line)) more)) ∙ ap ended (kept-twice p line more) ∙ ended-kept (extended p (line ++ more))
 
-extended-none : (p : Progress) → extended p [] ≡ p
+pub extended-none : (p : Progress) → extended p [] ≡ p
 extended-none (first line) = ap first (append-nil line)
 extended-none (later number s line) = ap (later number s) (append-nil line)
 extended-none stopped = refl
@@ -104,99 +104,110 @@ last-kept (later number s (byte ∷ line)) =
     (ap (λ (e : Ended). e .text) (ended-kept (later number s (byte ∷ line))))
 last-kept stopped = refl
 
--- What a session still writes for lines that end and for what stands after them, and so for an input.
-stillLines : Progress → List (List ℕ) → List ℕ → List ℕ
-stillLines p [] rest = lastText (kept (extended p rest))
-stillLines p (line ∷ more) rest = ended (extended p line) .text ++ stillLines (ended (extended p line) .progress) more rest
+-- Bytes of a line, and then more of it.
+consumed-continued : (p : Progress) (line : List ℕ) (complete : List (List ℕ)) (rest : List ℕ)
+    → let l = continuedBy line complete rest in consumedLines p (l .complete) (l .rest) ≡ consumedLines (kept (extended p line)) complete rest
+unfolding consumedLines
+consumed-continued p line [] rest = ap (λ (q : Progress). record { progress = q; text = [] }) (sym (kept-twice p line rest))
+consumed-continued p line (next ∷ more) rest = ap (λ (e : Ended). after (e .text) (consumedLines (e .progress) more rest)) (sym (ended-twice p line next))
 
-still : Progress → List ℕ → List ℕ
-still p input = stillLines p (linesIn input .complete) (linesIn input .rest)
+pub after-twice : (text more : List ℕ) (e : Ended) → after text (after more e) ≡ after (text ++ more) e
+after-twice text more e = ap (λ (l : List ℕ). record { progress = e .progress; text = l }) (sym (append-assoc text more (e .text)))
 
-still-continued : (p : Progress) (line : List ℕ) (complete : List (List ℕ)) (rest : List ℕ)
-    → let l = continuedBy line complete rest in stillLines p (l .complete) (l .rest) ≡ stillLines (kept (extended p line)) complete rest
-unfolding stillLines
-still-continued p line [] rest = ap lastText (sym (kept-twice p line rest))
-still-continued p line (next ∷ more) rest = ap (λ (e : Ended). e .text ++ stillLines (e .progress) more rest) (sym (ended-twice p line next))
-
--- A feeding writes the start of what there is to write, and leaves the rest.
-still-fed-lines : (ls : List (List ℕ)) (rest : List ℕ) → Plains ls → Plain rest → (p : Progress) (room : ℕ) (more : List ℕ)
-    → let f = fedLines p ls rest room in still p (take (f .used) (joined ls rest) ++ more) ≡ f .text ++ still (f .progress) more
-unfolding still stillLines fedLines joined
-still-fed-lines [] rest h k p room more =
-    rw (take-length rest, line-continued rest more k) (still-continued p rest (linesIn more .complete) (linesIn more .rest))
-still-fed-lines (line ∷ ls) rest h k p room more =
+-- A call writes the start of what there is to write, and leaves the rest.
+consumed-fed-lines : (ls : List (List ℕ)) (rest : List ℕ) → Plains ls → Plain rest → (p : Progress) (room : ℕ) (more : List ℕ)
+    → let f = fedLines p ls rest room in consumed p (take (f .used) (joined ls rest) ++ more) ≡ after (f .text) (consumed (f .progress) more)
+unfolding consumed consumedLines fedLines joined
+consumed-fed-lines [] rest h k p room more =
+    rw (take-length rest, line-continued rest more k) (consumed-continued p rest (linesIn more .complete) (linesIn more .rest))
+consumed-fed-lines (line ∷ ls) rest h k p room more =
     let e = ended (extended p line) in
-    go (ltb room (roomFor p)) (fedLines (e .progress) ls rest (room - length (e .text))) (still-fed-lines ls rest (h .1) k (e .progress) (room - length (e .text)) more)
+    go (ltb room (roomFor p)) (fedLines (e .progress) ls rest (room - length (e .text))) (consumed-fed-lines ls rest (h .1) k (e .progress) (room - length (e .text)) more)
   where
-    go : (t : Bool) (f : Feeding) → still (ended (extended p line) .progress) (take (f .used) (joined ls rest) ++ more) ≡ f .text ++ still (f .progress) more
+    go : (t : Bool) (f : Feeding) → consumed (ended (extended p line) .progress) (take (f .used) (joined ls rest) ++ more) ≡ after (f .text) (consumed (f .progress) more)
         → let g = cond t (record { progress = p; used = 0; text = [] }) (followed line (ended (extended p line) .text) f) in
-        still p (take (g .used) (line ++ lineFeed ∷ joined ls rest) ++ more) ≡ g .text ++ still (g .progress) more
+        consumed p (take (g .used) (line ++ lineFeed ∷ joined ls rest) ++ more) ≡ after (g .text) (consumed (g .progress) more)
     go true f x = refl
     go false f x =
         let n : suc (length line) + f .used ≡ length line + suc (f .used) = omega arith in
         rw (n, take-append-add line (lineFeed ∷ joined ls rest) (suc (f .used)), append-assoc line (lineFeed ∷ take (f .used) (joined ls rest)) more, line-ended line (take (f .used) (joined ls rest) ++ more) (h .0), x)
-        (sym (append-assoc (ended (extended p line) .text) (f .text) (still (f .progress) more)))
+        (after-twice (ended (extended p line) .text) (f .text) (consumed (f .progress) more))
 
-still-fed : (p : Progress) (chunk : List ℕ) (room : ℕ) (more : List ℕ)
-    → let f = fed p chunk room in still p (take (f .used) chunk ++ more) ≡ f .text ++ still (f .progress) more
+pub consumed-fed : (p : Progress) (chunk : List ℕ) (room : ℕ) (more : List ℕ)
+    → let f = fed p chunk room in consumed p (take (f .used) chunk ++ more) ≡ after (f .text) (consumed (f .progress) more)
 unfolding fed
-still-fed p chunk room more =
+consumed-fed p chunk room more =
     let plain = lines-plain chunk in
-    rw (lines-joined chunk) at (still-fed-lines (linesIn chunk .complete) (linesIn chunk .rest) (plain .0) (plain .1) p room more)
+    rw (lines-joined chunk) at (consumed-fed-lines (linesIn chunk .complete) (linesIn chunk .rest) (plain .0) (plain .1) p room more)
 
 -- A run of calls does the same.
-still-calls : (run : List Call) (p : Progress) (more : List ℕ)
-    → let c = calls p run in still p (c .input ++ more) ≡ c .output ++ still (c .progress) more
+pub cut : Cut
 unfolding calls
-still-calls [] p more = refl
-still-calls (call ∷ run) p more =
-    let f = fed p (call .chunk) (call .room) in
-    let c = calls (f .progress) run in
-    ap (still p) (append-assoc (take (f .used) (call .chunk)) (c .input) more)
-    ∙ still-fed p (call .chunk) (call .room) (c .input ++ more)
-    ∙ ap (λ (l : List ℕ). f .text ++ l) (still-calls run (f .progress) more)
-    ∙ sym (append-assoc (f .text) (c .output) (still (c .progress) more))
+cut [] p = record { then = λ more. refl }
+cut (call ∷ run) p = record {
+  then = λ more.
+      let f = fed p (call .chunk) (call .room) in
+      let c = calls (f .progress) run in
+      ap (consumed p) (append-assoc (take (f .used) (call .chunk)) (c .input) more)
+      ∙ consumed-fed p (call .chunk) (call .room) (c .input ++ more)
+      ∙ ap (after (f .text)) (cut run (f .progress) .then more)
+      ∙ after-twice (f .text) (c .output) (consumed (c .progress) more);
+}
+
+-- Nothing more is consumed.
+finished-none : (p : Progress) → finished (consumed p []) ≡ lastText p
+unfolding consumed consumedLines linesIn
+finished-none p = ap (λ (q : Progress). lastText (kept q)) (extended-none p) ∙ last-kept p
 
 -- What a session writes for later lines is their records; one that has stopped writes nothing.
-still-later : (ls : List (List ℕ)) (rest : List ℕ) (number : ℕ) (s : State) → stillLines (later number s []) ls rest ≡ laterRecords number s (ls ++ lastLine rest)
-unfolding stillLines laterRecords ended
-still-later [] [] number s = refl
-still-later [] (byte ∷ rest) number s =
-    last-kept (later number s (byte ∷ rest)) ∙ rw (ne-eqb (suc (length rest)) 0 (λ z. omega arith)) (sym (append-nil _))
-still-later (line ∷ ls) rest number s =
-    let a = answered s (lineEvent line) in
-    ap (λ (l : List ℕ). recordOf number a ++ l) (still-later ls rest (numberAfter number) (a .next))
+finished-after : (text : List ℕ) (e : Ended) → finished (after text e) ≡ text ++ finished e
+finished-after text e = append-assoc text (e .text) (lastText (e .progress))
 
-still-stopped : (ls : List (List ℕ)) (rest : List ℕ) → stillLines stopped ls rest ≡ []
-unfolding stillLines ended
-still-stopped [] rest = refl
-still-stopped (line ∷ ls) rest = still-stopped ls rest
+later-finished : (ls : List (List ℕ)) (rest : List ℕ) (number : ℕ) (s : State) → finished (consumedLines (later number s []) ls rest) ≡ laterRecords number s (ls ++ lastLine rest)
+unfolding consumedLines laterRecords ended
+later-finished [] [] number s = refl
+later-finished [] (byte ∷ rest) number s =
+    last-kept (later number s (byte ∷ rest)) ∙ rw (ne-eqb (suc (length rest)) 0 (λ z. omega arith)) (sym (append-nil _))
+later-finished (line ∷ ls) rest number s =
+    let a = answered s (lineEvent line) in
+    finished-after (recordOf number a) (consumedLines (later (numberAfter number) (a .next) []) ls rest)
+    ∙ ap (λ (l : List ℕ). recordOf number a ++ l) (later-finished ls rest (numberAfter number) (a .next))
+
+stopped-finished : (ls : List (List ℕ)) (rest : List ℕ) → finished (consumedLines stopped ls rest) ≡ []
+unfolding consumedLines ended
+stopped-finished [] rest = refl
+stopped-finished (line ∷ ls) rest = stopped-finished ls rest
 
 -- What a fresh session writes is the listing.
-still-first : (ls : List (List ℕ)) (rest : List ℕ) → stillLines (first []) ls rest ≡ listingOf (ls ++ lastLine rest)
-unfolding stillLines ended laterRecords lineFirst said among fields numbersIn same
-still-first [] [] = refl
-still-first [] (byte ∷ rest) = ap (λ (e : Ended). e .text) (ended-kept (first (byte ∷ rest))) ∙ go (stateBy (lineFirst (byte ∷ rest)))
+first-finished : (ls : List (List ℕ)) (rest : List ℕ) → finished (consumedLines (first []) ls rest) ≡ listingOf (ls ++ lastLine rest)
+unfolding consumedLines ended laterRecords lineFirst said among fields numbersIn same
+first-finished [] [] = refl
+first-finished [] (byte ∷ rest) = ap (λ (e : Ended). e .text) (ended-kept (first (byte ∷ rest))) ∙ go (stateBy (lineFirst (byte ∷ rest)))
   where
     go : (o : Option State) → begun o .text ≡ listingFrom o []
     go none = refl
     go (some s) = sym (append-nil firstDone)
-still-first (line ∷ ls) rest = go (stateBy (lineFirst line))
+first-finished (line ∷ ls) rest = go (stateBy (lineFirst line))
   where
-    go : (o : Option State) → begun o .text ++ stillLines (begun o .progress) ls rest ≡ listingFrom o (ls ++ lastLine rest)
-    go none = ap (λ (l : List ℕ). begun none .text ++ l) (still-stopped ls rest) ∙ append-nil (begun none .text)
-    go (some s) = ap (λ (l : List ℕ). firstDone ++ l) (still-later ls rest 1 s)
+    go : (o : Option State) → finished (after (begun o .text) (consumedLines (begun o .progress) ls rest)) ≡ listingFrom o (ls ++ lastLine rest)
+    go none = finished-after (begun none .text) (consumedLines stopped ls rest) ∙ ap (λ (l : List ℕ). begun none .text ++ l) (stopped-finished ls rest) ∙ append-nil (begun none .text)
+    go (some s) = finished-after firstDone (consumedLines (later 1 s []) ls rest) ∙ ap (λ (l : List ℕ). firstDone ++ l) (later-finished ls rest 1 s)
 
--- However a fresh session is fed, what the calls write and what `finish` then adds is the listing of the input that they used.
+pub listing-consumed : Consumed
+unfolding consumed listing lines
+listing-consumed script = first-finished (linesIn script .complete) (linesIn script .rest)
+
+-- However a fresh session is fed, what is written and what `finish` then adds is the listing of the input.
+pub reached-listing : (input text : List ℕ) (p : Progress) → Reached (first []) input text p → text ++ lastText p ≡ listing input
+reached-listing input text p w =
+    ap (λ (l : List ℕ). text ++ l) (sym (finished-none p))
+    ∙ sym (finished-after text (consumed p []))
+    ∙ ap finished (sym (w .then []))
+    ∙ ap (λ (l : List ℕ). finished (consumed (first []) l)) (append-nil input)
+    ∙ listing-consumed input
+
 pub whole : Whole
-unfolding still stillLines listing lines linesIn
-whole run =
-    let c = calls (first []) run in
-    let p = c .progress in
-    ap (λ (l : List ℕ). c .output ++ l) (sym (ap (λ (q : Progress). lastText (kept q)) (extended-none p) ∙ last-kept p))
-    ∙ sym (still-calls run (first []) [])
-    ∙ ap (still (first [])) (append-nil (c .input))
-    ∙ still-first (linesIn (c .input) .complete) (linesIn (c .input) .rest)
+whole run = let c = calls (first []) run in reached-listing (c .input) (c .output) (c .progress) (cut run (first []))
 
 -- Where the longest record has room, something of a chunk is used.
 room-at-most : (p : Progress) → roomFor p ≤ longestRecord

@@ -64,7 +64,7 @@ kept (first line) = first (take keptBytes line)
 kept (later number s line) = later number s (take keptBytes line)
 kept stopped = stopped
 
--- What the end of a line leaves, and its record.
+-- What the end of a line leaves, and its record; or what a chunk leaves, and its records.
 pub record Ended : Type 0 where
   pub progress : Progress
   pub text : List ℕ
@@ -112,11 +112,27 @@ fedLines p (line ∷ more) rest room =
 unfoldable pub fed : Progress → List ℕ → ℕ → Feeding
 fed p chunk room = fedLines p (linesIn chunk .complete) (linesIn chunk .rest) room
 
+-- A text was written, and then more.
+abbrev pub after : List ℕ → Ended → Ended
+after text e = record { progress = e .progress; text = text ++ e .text }
+
+-- What all of a chunk leaves, however many calls use it up: every line that ends in it is answered.
+unfoldable pub consumedLines : Progress → List (List ℕ) → List ℕ → Ended
+consumedLines p [] rest = record { progress = kept (extended p rest); text = [] }
+consumedLines p (line ∷ more) rest = let e = ended (extended p line) in after (e .text) (consumedLines (e .progress) more rest)
+
+unfoldable pub consumed : Progress → List ℕ → Ended
+consumed p chunk = consumedLines p (linesIn chunk .complete) (linesIn chunk .rest)
+
 -- What is written at the end: the record of a last line that lacks its line feed, or of an empty input.
 abbrev pub lastText : Progress → List ℕ
 lastText (first line) = ended (first line) .text
 lastText (later number s line) = cond (eqb (length line) 0) [] (ended (later number s line) .text)
 lastText stopped = []
+
+-- All that is written of an input once it has ended.
+abbrev pub finished : Ended → List ℕ
+finished e = e .text ++ lastText (e .progress)
 
 -- What a caller needs to take parts of what it lent: how much was used of the chunk and written lies within them.
 pub record Bounds (used wrote : ℕ) (chunk out : List ℕ) : Type 0 where

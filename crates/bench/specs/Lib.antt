@@ -1,0 +1,2 @@
+-- The definitions of the program. Assumes nothing.
+pub mod Names  -- the names that it is given
