@@ -17,7 +17,7 @@ use Rattle.script.specs.First.{lineFirst}
 use Rattle.script.specs.LineForms.{among, fields, numbersIn, said}
 use Rattle.chunk.specs.Chunk.{keptBytes}
 use Rattle.script.specs.ListingLine.{lineFeed, longestRecord}
-use Rattle.session.specs.Calls.{Call, Consumed, Cut, Reached, Whole, calls}
+use Rattle.session.specs.Calls.{Consumed, Cut, Reached, Whole, calls}
 use Rattle.listing.specs.Listing.{answered, firstDone, laterRecords, listing, listingFrom, listingOf, numberAfter, recordOf, stateBy}
 use Rattle.script.specs.Records.{Lines, inFront, lastLine, lines, linesIn}
 use Rattle.session.specs.Session.{Ended, Feeding, Progress, after, begun, consumed, consumedLines, ended, extended, fed, fedLines, finished, first, followed, kept, lastText, later, roomFor, stopped}

@@ -7,17 +7,15 @@ use Prim.Native.Nat.{ℕ, _+_, _-_, _^_, _≤_, _<_}
 use borrow.Rule.Slice.PartMut.{midOf, putMid}
 use native.Mathlib.Omega.{arith}
 use lib.ListN.{drop, length, length-append, length-drop, take}
-use lib.Seq.{drop-drop, drop-length, length-sets, sets, sets-eq, take-all, take-at, take-length}
+use lib.Seq.{drop-drop, drop-length, length-sets, sets, sets-eq, take-length}
 use Rattle.decimal.proofs.TextRoom.{with-no-room, with-room}
 use Rattle.decimal.specs.Write.{hasRoom, withText}
 use Rattle.script.proofs.StoredTexts.{sets-append}
+use Rattle.session.proofs.Callers.{part-whole}
 use Rattle.xalevinda.specs.Exports.{atMostWord, sizeOf}
 use Rattle.xalevinda.specs.StoredListing.{Stored}
 
--- What stands from a place on, as the code takes it.
-pub part-whole : (l : List ℕ) (at : ℕ) → midOf at (length l - at) l ≡ drop at l
-part-whole l at = take-all (length l - at) (drop at l) (omega (arith, length-drop at l))
-
+-- Nothing stands after what is left from a place on.
 after-part : (l : List ℕ) (at : ℕ) → drop (length l - at) (drop at l) ≡ []
 after-part l at = rw (← length-drop at l) (drop-length (drop at l))
 
@@ -38,11 +36,6 @@ with-length buffer at text = go (hasRoom buffer at text)
     go : (t : Bool) → length (cond t (sets buffer at text) buffer) ≡ length buffer
     go true = length-sets buffer at text
     go false = refl
-
--- A text at the start of a buffer is taken from there.
-pub front : (buffer text : List ℕ) (n : ℕ) → n ≡ length text → n ≤ length (sets buffer 0 text) → take n (sets buffer 0 text) ≡ text
-front buffer text n e h =
-    rw (sets-eq text buffer 0 (omega (arith, length-sets buffer 0 text))) (take-at text (drop (0 + length text) buffer) n (sym e))
 
 -- Nothing yet, and one piece more.
 pub stored-none : (out : List ℕ) → Stored [] 0 out out

@@ -1,15 +1,13 @@
 -- `xalevinda::written::write` meets its contract. The loop's invariant is `Listed`, and the measure is what is left of the script.
 -- Assumes nothing.
-use mathlib.Core.Path.{_≡_, sym, ap, _∙_}
+use mathlib.Core.Path.{_≡_, sym, _∙_}
 use Prim.Native.Nat.{_+_, _-_, _^_, _<_, _≤_}
 use borrow.Author.Needs.{needs}
-use borrow.Rule.Slice.PartMut.{midOf}
 use native.Mathlib.Omega.{arith}
-use lib.ListN.{drop, length, length-drop}
+use lib.ListN.{length}
 use Rattle.session.specs.Session.{progressOf}
 use Rattle.xalevinda.proofs.Listed.{Listed, listed-done, listed-fed, listed-start}
-use Rattle.session.proofs.WholeListing.{some-used}
-use Rattle.xalevinda.proofs.Storing.{part-whole}
+use Rattle.session.proofs.Callers.{moves}
 use Rattle.xalevinda.proofs.written.write.Statement.{statement}
 use Rattle.xalevinda.proofs.written.write.Tie as tie
 
@@ -23,25 +21,16 @@ abbrev μ-loop : tie.MeasureT-loop
 bounded : (c : tie.Start Inv-loop μ-loop) → length (c .args .out .now) < 2 ^ 63
 bounded c = omega (arith, c .good)
 
--- The piece that is fed is what is left of the script.
-fed-part : (c : tie.In-loop Inv-loop μ-loop)
-    → let script = c .before .before .before .before .before .before .args .script .now in
-    let at = c .before .loop .at in midOf at (length script - at) script ≡ drop at script
-fed-part c = part-whole (c .before .before .before .before .before .before .args .script .now) (c .before .loop .at)
-
--- Some of it is used, and no more than there is.
-moves : (c : tie.After-feed Inv-loop μ-loop)
+-- Some of what is left is used, and no more than there is.
+used-some : (c : tie.After-feed Inv-loop μ-loop)
     → let inside = c .before .before .before in
     let at = inside .before .loop .at in
     let end = at + c .feed .result .used in (at < end) × (end ≤ length (inside .before .before .before .before .before .before .args .script .now))
-moves c =
+used-some c =
     let inside = c .before .before .before in
     let head = inside .before .loop in
-    let script = inside .before .before .before .before .before .before .args .script .now in
-    let chunk = midOf (head .at) (length script - head .at) script in
-    let size : length chunk ≡ length script - head .at = ap length (fed-part inside) ∙ length-drop (head .at) script in
-    let some = some-used (progressOf (head .s)) chunk (length (head .records)) (omega (arith, head .inv .0)) (omega (arith, inside .loop-test .taken, size)) in
-    omega (arith, some, c .feed .ensures .1 .0, c .feed .ensures .1 .1 .1 .1 .used-within, head .inv .1 .within, size)
+    let e = c .feed .ensures in
+    moves (progressOf (head .s)) (inside .before .before .before .before .before .before .args .script .now) (head .at) _ (length (head .records)) (e .1 .0) (e .1 .1 .1 .1 .used-within) (omega (arith, head .inv .0)) (inside .loop-test .taken)
 
 loop-holds : tie.Need-loop-holds Inv-loop μ-loop
 loop-holds c =
@@ -51,10 +40,10 @@ loop-holds c =
 add-at : tie.Need-add-at Inv-loop μ-loop
 add-at c =
     let fed = c .before .before .before .before .before .before .before .before in
-    omega (arith, moves fed, fed .before .before .before .before .before .before .before .before .before .good)
+    omega (arith, used-some fed, fed .before .before .before .before .before .before .before .before .before .good)
 
 loop-less : tie.Need-loop-less Inv-loop μ-loop
-loop-less c = omega (arith, moves (c .before .before .before .before .before .before .before .before .before))
+loop-less c = omega (arith, used-some (c .before .before .before .before .before .before .before .before .before))
 
 loop-again : tie.Need-loop-again Inv-loop μ-loop
 loop-again c =
@@ -65,7 +54,7 @@ loop-again c =
     let start = inside .before .before .before .before .before .before in
     let e = fed .feed .ensures in (
       head .inv .0 ∙ sym (fed .feed .kept .1 .1 .0),
-      listed-fed (head .inv .1) (bounded start) (head .records) _ (fed-part inside) (e .0) (e .1 .0) (e .1 .1 .0) (e .1 .1 .1 .0) (e .1 .1 .1 .1) (c .before .before .added .ensures) (put .put .ensures),
+      listed-fed (head .inv .1) (bounded start) (head .records) (e .0) (e .1 .0) (e .1 .1 .0) (e .1 .1 .1 .0) (e .1 .1 .1 .1) (c .before .before .added .ensures) (put .put .ensures),
     )
 
 returns : tie.Need-returns Inv-loop μ-loop
