@@ -1,5 +1,6 @@
 // The bench: reads a script from standard input and writes its listing to standard output. Given the names of files, it writes the
-// name and the listing of each; the name - stands for standard input.
+// name and the listing of each; the name - stands for standard input. `show` and `main` have no contract: they return nothing, and what
+// the arguments and the files hold is open.
 ghost use mathlib.Core.Path.{_≡_};
 ghost use lib.ListN.{length};
 ghost use Rattle.bench.specs.Names.{isInput};

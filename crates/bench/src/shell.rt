@@ -1,5 +1,5 @@
-// Reads a script from a descriptor and writes its listing to standard output, over the proved session. What is fed to the session and
-// which bytes are handed to the C library is proved; which of them it moves no contract can say.
+// Reads a script from a descriptor and writes its listing to standard output, over the proved session. The contracts say what is fed
+// and which bytes are handed to the C library to be written. Which bytes it moves, and what it answers, no contract can say.
 ghost use mathlib.Core.Bool.{not, _&&_};
 ghost use mathlib.Core.Path.{_≡_};
 ghost use Prim.Native.Nat.{_≤_};
@@ -24,7 +24,7 @@ struct Turned {
     used: usize,
 }
 
-// Writes bytes to standard output, or says that it cannot. Whether they are written is up to the C library: so the answer is open.
+// Writes bytes to standard output, or says on standard error that it cannot. The answer is the C library's: nothing is known of it.
 fn write(bytes: &[u8]) -> bool {
     let written = io::write_all(1, bytes);
     if !written {
@@ -33,23 +33,24 @@ fn write(bytes: &[u8]) -> bool {
     written
 }
 
-// Writes the records that come of a piece of a chunk. The session before the piece, and what was left of the chunk, only say which
-// records these must be.
+// Writes the records of a piece of a chunk. The session before it, and what was left of the chunk, are there for the contract: they
+// say which bytes these are.
 fn write_records(before: Session, rest: &[u8], records: &[u8]) -> bool
     requires { ⌜ now records ≡ fed (progressOf before) (now rest) 65536 .text ⌝ }
 {
     write(records)
 }
 
-// Writes the last record. The session only says which record it must be.
+// Writes the last record. The session is there for the contract.
 fn write_last(before: Session, last: &[u8]) -> bool
     requires { ⌜ now last ≡ lastText (progressOf before) ⌝ }
 {
     write(last)
 }
 
-// Feeds a chunk and writes the records that come of it, so many at a time as have room. All of the chunk is used unless a write fails;
-// then the piece whose records were not written is not used, and neither is what follows it.
+// Feeds a chunk and writes the records that come of it, so many at a time as have room. Where a write fails, the piece whose records
+// were not written does not count as used, nor does what follows it; else all of the chunk is used. That nothing else ends the loop
+// is in the code only, since nothing is known of what a write answers.
 fn turn(start: Session, chunk: &[u8], out: &mut [u8; BUFFER]) -> Turned
     ensures used { λ r. ⌜ r .used ≤ length (now (chunk .entry)) ⌝ }
     ensures session { λ r. ⌜ progressOf (r .session)
@@ -75,7 +76,8 @@ fn turn(start: Session, chunk: &[u8], out: &mut [u8; BUFFER]) -> Turned
     }
 }
 
-// Whether to read on after a chunk: all of it was used, and the session has not stopped. After a refused first line nothing is read.
+// Whether to read on after a chunk of that size: all of it was used, so that no write failed, and the session has not stopped. After
+// a refused first line nothing further is read.
 fn goes_on(after: Turned, size: usize) -> bool
     ensures { λ r. ⌜ r ≡ (eqb (after .used) size && not (isStopped (progressOf (after .session)))) ⌝ }
 {
@@ -92,6 +94,8 @@ fn close(current: Session) {
 
 // Reads the script from the descriptor to its end and writes its listing. A read or a write that fails is told on standard error,
 // and ends it. A proved loop has to end, and nothing says that an input does: so it counts down from a number that no run uses up.
+// It has no contract: it returns nothing, and which bytes a read puts into the buffer is open. `turn`, `goes_on` and `close` say what
+// becomes of them.
 pub(crate) fn run(descriptor: i32) {
     let mut out = buffer();
     let mut chunk = buffer();
