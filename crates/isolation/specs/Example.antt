@@ -28,7 +28,7 @@ stateOf rip rsp secret = record {
     processors = 2;
     pages = 2;
     «host_mask» = 15;
-    shape = record { «max_level» = level 2; «dr6_shared» = false };
+    shape = record { «max_level» = level 2; «dr6_shared» = false; smep = false };
     partition = record { enabled = levelSet 7; mbec = levelSet 0; configs = 62 ∷ 63 ∷ 62 ∷ 62 ∷ []; masks = 15 ∷ 15 ∷ 15 ∷ 15 ∷ 15 ∷ 0 ∷ replicate 250 15 };
     vps = replicate 4 (record {
       active = level 0;

@@ -112,8 +112,9 @@ pub fresh-well-formed : FreshWellFormed
 unfolding admissible wellFormed wellSized processors pages maxLevel top shape fresh
 fresh-well-formed f h =
     let sizes : Bool = inRange (f .processors) (f .«max_level» .0) (f .pages) in
-    let rest = and-left (sizes && leb (f .«dr6_shared») 1) (validMask (f .«host_mask»)) h in
-    let host = and-right (sizes && leb (f .«dr6_shared») 1) (validMask (f .«host_mask»)) h in
+    let masked = and-left (sizes && leb (f .«dr6_shared») 1 && validMask (f .«host_mask»)) (leb (f .smep) 1) h in
+    let rest = and-left (sizes && leb (f .«dr6_shared») 1) (validMask (f .«host_mask»)) masked in
+    let host = and-right (sizes && leb (f .«dr6_shared») 1) (validMask (f .«host_mask»)) masked in
     let lent : eqb (length {A = ℕ} (replicate (f .pages) 0)) (f .pages) ≡ true = eq-eqb _ _ (length-replicate {A = ℕ} (f .pages) 0) in
     and-both (wellSized (fresh f) && wellFormedParts (fresh f)) (wellModed (fresh f))
     (and-both (wellSized (fresh f)) (wellFormedParts (fresh f)) (and-both sizes _ (and-left sizes (leb (f .«dr6_shared») 1) rest) lent) (parts-ok f host))
@@ -124,4 +125,5 @@ pub few-pages : (f : FirstLine) → admissible f ≡ true → f .pages ≤ 64
 unfolding admissible inRange
 few-pages f h =
     let sizes : Bool = inRange (f .processors) (f .«max_level» .0) (f .pages) in
-    leb-true (f .pages) 64 (hold _ (and-left sizes (leb (f .«dr6_shared») 1) (and-left (sizes && leb (f .«dr6_shared») 1) (validMask (f .«host_mask»)) h)) .1 .1 .1 .1 .0)
+    let masked = and-left (sizes && leb (f .«dr6_shared») 1 && validMask (f .«host_mask»)) (leb (f .smep) 1) h in
+    leb-true (f .pages) 64 (hold _ (and-left sizes (leb (f .«dr6_shared») 1) (and-left (sizes && leb (f .«dr6_shared») 1) (validMask (f .«host_mask»)) masked)) .1 .1 .1 .1 .0)

@@ -15,8 +15,8 @@ use Rattle.model.specs.Bounded.{every}
 use Rattle.model.specs.Entry.{enter, highestReady, nextUp, called, returned, interrupted, started, acknowledged, byInterrupt}
 use Rattle.model.specs.Events.{own, configured, locked}
 use Rattle.model.specs.Masks.{validMask, readBit, writeBit, secureReservedSet, protects}
-use Rattle.model.specs.Memory.{needed, mbecOn, deniesIn, denies, denied, receiver, hostDeniesBy, hostDenies}
-use Rattle.model.specs.Registers.{cr0, rflags, rcx, protectedBit, isPrivate, privateOf, sharedOf}
+use Rattle.model.specs.Memory.{needed, mbecOn, smepAllows, mbecCounts, deniesIn, denies, denied, receiver, hostDeniesBy, hostDenies}
+use Rattle.model.specs.Registers.{cr0, cr4, rflags, rcx, protectedBit, isPrivate, privateOf, sharedOf}
 use Rattle.model.specs.State.{State, Shape, VirtualProcessor, Access, Mode, level, processors, shape, pages, partition, isProcessor, vp, context, activeOf, active, enabledAt, enabledOn, maskOf, hostMask, secureOf, mbecBit}
 use Rattle.model.specs.Step.{Event, Enpart, Envp, Call, Ret, Read, Write, Fetch, Protect, Config, Secure, Flush, Rreg, Wreg, Tpr, Ack, Pstat, Vstat, Caps, Made, Int, Outcome, rule, ruleOf, maker, modeOf, intercepted, nextFor, ruled, step}
 use Rattle.model.specs.Updates.{enableLevel, setMask, setRegister, setTpr, setSecure}
@@ -120,17 +120,22 @@ module _ (K : ℕ) (E : ℕ → ℕ → Bool) (H : ℕ → Bool) where
   unfolding mbecOn
   needs-same s v t l = simp (shape-same, vp-hide, secure-same)
 
-  denies-same : (s : State) (v : ℕ) (mode : Mode) (p : ℕ) (a : Access) (t : ℕ) → denies (hide K E H s) v mode p a t ≡ denies s v mode p a t
+  -- The actor's own CR4 is seen, so whether MBEC counts is too.
+  counts-same : (s : State) (v t : ℕ) → active s v < K → mbecCounts (hide K E H s) v t (active s v) ≡ mbecCounts s v t (active s v)
+  unfolding mbecCounts smepAllows isPrivate
+  counts-same s v t h = rw (needs-same s v t (active s v), shape-same, vp-hide, Visible.private-hide K (E v) (shape s) (vp s v) (active s v) cr4 h refl)
+
+  denies-same : (s : State) (v : ℕ) → active s v < K → (mode : Mode) (p : ℕ) (a : Access) (t : ℕ) → denies (hide K E H s) v mode p a t ≡ denies s v mode p a t
   unfolding denies
-  denies-same s v mode p a t = rw (shape-same, pages-same, active-hide, needs-same, partition-hide) (Whole.denies-hide K E H s (partition s) (active s v) mode p a t (mbecOn s v t (active s v)))
+  denies-same s v h mode p a t = rw (shape-same, pages-same, active-hide, counts-same s v t h, partition-hide) (Whole.denies-hide K E H s (partition s) (active s v) mode p a t (mbecCounts s v t (active s v)))
 
-  denied-same : (s : State) (v : ℕ) (mode : Mode) (p : ℕ) (a : Access) → denied (hide K E H s) v mode p a ≡ denied s v mode p a
+  denied-same : (s : State) (v : ℕ) → active s v < K → (mode : Mode) (p : ℕ) (a : Access) → denied (hide K E H s) v mode p a ≡ denied s v mode p a
   unfolding denied
-  denied-same s v mode p a = simp denies-same
+  denied-same s v h mode p a = simp (denies-same s v h)
 
-  receiver-same : (s : State) (v : ℕ) (mode : Mode) (p : ℕ) (a : Access) → receiver (hide K E H s) v mode p a ≡ receiver s v mode p a
+  receiver-same : (s : State) (v : ℕ) → active s v < K → (mode : Mode) (p : ℕ) (a : Access) → receiver (hide K E H s) v mode p a ≡ receiver s v mode p a
   unfolding receiver
-  receiver-same s v mode p a = simp (denies-same, enabledOn-hide)
+  receiver-same s v h mode p a = simp (denies-same s v h, enabledOn-hide)
 
   hostDenies-same : (s : State) (p : ℕ) (a : Access) → hostDenies (hide K E H s) p a ≡ hostDenies s p a
   unfolding hostDenies hostMask
@@ -168,9 +173,9 @@ module _ (K : ℕ) (E : ℕ → ℕ → Bool) (H : ℕ → Bool) where
   refusals-same k s (Made v mode (Envp w t ip sp cr)) c = simp Same
   refusals-same k s (Made v mode (Call len)) c = let low : active s (v .0) < K = maker-low k s (v .0) c in simp (processors-same, nextUp-hide, own-same s (v .0) cr0 low refl, rcx-same)
   refusals-same k s (Made v mode (Ret len)) c = simp (Same, rcx-same)
-  refusals-same k s (Made v mode (Read p)) c = simp (Same, receiver-same, denied-same, hostDenies-same)
-  refusals-same k s (Made v mode (Write p x)) c = simp (Same, receiver-same, denied-same, hostDenies-same)
-  refusals-same k s (Made v mode (Fetch p)) c = simp (Same, receiver-same, denied-same, hostDenies-same)
+  refusals-same k s (Made v mode (Read p)) c = let low = maker-low k s (v .0) c in simp (Same, receiver-same s (v .0) low, denied-same s (v .0) low, hostDenies-same)
+  refusals-same k s (Made v mode (Write p x)) c = let low = maker-low k s (v .0) c in simp (Same, receiver-same s (v .0) low, denied-same s (v .0) low, hostDenies-same)
+  refusals-same k s (Made v mode (Fetch p)) c = let low = maker-low k s (v .0) c in simp (Same, receiver-same s (v .0) low, denied-same s (v .0) low, hostDenies-same)
   refusals-same k s (Made v mode (Protect p m)) c = simp Same
   refusals-same k s (Made v mode (Config g w)) c = simp Same
   refusals-same k s (Made v mode (Secure l w)) c = simp Same

@@ -19,7 +19,7 @@ pub record Case : Type 0 where
   pub line : List ℕ
 
 abbrev pub start : FirstLine
-start = record { processors = 1; «max_level» = level 1; pages = 2; «dr6_shared» = 0; «host_mask» = 15 }
+start = record { processors = 1; «max_level» = level 1; pages = 2; «dr6_shared» = 0; «host_mask» = 15; smep = 0 }
 
 abbrev pub v0 : Processor
 v0 = record { 0 = 0 }

@@ -5,9 +5,10 @@ use lib.ListN.{replicate}
 use Rattle.model.specs.Masks.{validMask}
 use Rattle.model.specs.State.{State, FirstLine, Partition, VirtualProcessor, LevelSet, level, levelSet, inRange, noContext}
 
--- Sizes in range, Dr6Shared 0 or 1, and a valid host mask.
+-- Sizes in range, Dr6Shared 0 or 1, a valid host mask, and SMEP 0 or 1 (02, request 1).
 unfoldable pub admissible : FirstLine → Bool
-admissible f = inRange (f .processors) (f .«max_level» .0) (f .pages) && leb (f .«dr6_shared») 1 && validMask (f .«host_mask»)
+admissible f =
+    inRange (f .processors) (f .«max_level» .0) (f .pages) && leb (f .«dr6_shared») 1 && validMask (f .«host_mask») && leb (f .smep) 1
 
 -- Level 0 alone enabled and active; all registers, TPR classes, reasons and control records 0, no lock or pending vector.
 abbrev pub levelZeroAlone : LevelSet
@@ -27,7 +28,7 @@ fresh f = record {
     processors = f .processors;
     pages = f .pages;
     «host_mask» = f .«host_mask»;
-    shape = record { «max_level» = f .«max_level»; «dr6_shared» = eqb (f .«dr6_shared») 1 };
+    shape = record { «max_level» = f .«max_level»; «dr6_shared» = eqb (f .«dr6_shared») 1; smep = eqb (f .smep) 1 };
     partition = freshPartition;
     vps = replicate 4 freshVp;
   };

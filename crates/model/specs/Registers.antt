@@ -15,6 +15,9 @@ rflags = 2
 abbrev pub cr0 : ℕ
 cr0 = 3
 
+abbrev pub cr4 : ℕ
+cr4 = 5
+
 abbrev pub dr6 : ℕ
 dr6 = 12
 
@@ -24,12 +27,15 @@ rax = 13
 abbrev pub rcx : ℕ
 rcx = 14
 
--- CR0 bit 0 is clear in real mode; RFLAGS bit 9 is IF.
+-- CR0 bit 0 is clear in real mode; RFLAGS bit 9 is IF; CR4 bit 20 is SMEP.
 abbrev pub protectedBit : ℕ
 protectedBit = 0
 
 abbrev pub interruptBit : ℕ
 interruptBit = 9
+
+abbrev pub smepBit : ℕ
+smepBit = 20
 
 -- 0..11 are private to a level; 12, DR6, is too unless Dr6Shared is 1; 13..31 are shared by all levels of a processor.
 unfoldable pub isPrivate : Shape → ℕ → Bool

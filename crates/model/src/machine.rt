@@ -11,12 +11,16 @@ pub struct FirstLine {
     pub pages: u64,
     pub dr6_shared: u64,
     pub host_mask: u64,
+    // Whether SMEP is available; 0 where the line does not say.
+    pub smep: u64,
 }
 
-// What a processor's record is read by: the maximum level, and whether DR6 is shared by the levels.
+// What a processor's record is read by: the maximum level, whether DR6 is shared by the levels, and whether SMEP is available to
+// the guest.
 pub struct Shape {
     pub max_level: Level,
     pub dr6_shared: bool,
+    pub smep: bool,
 }
 
 // What stays the same in a run.

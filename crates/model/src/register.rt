@@ -7,6 +7,8 @@ pub const RFLAGS: u64 = 2;
 
 pub const CR0: u64 = 3;
 
+pub const CR4: u64 = 5;
+
 pub const DR6: u64 = 12;
 
 pub const RAX: u64 = 13;
@@ -18,6 +20,9 @@ pub const LAST_REGISTER: u64 = 31;
 
 // CR0: clear in real mode.
 pub const PROTECTED_BIT: u32 = 0;
+
+// CR4: SMEP is on.
+pub const SMEP_BIT: u32 = 20;
 
 // RFLAGS: IF, interrupts are taken.
 pub const INTERRUPT_BIT: u32 = 9;
