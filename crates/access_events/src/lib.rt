@@ -26,7 +26,8 @@ use partition::mask::Masks;
 use processor::record::Record;
 use processor::record::active_of;
 use processor::record::enabled_set;
-use processor::secure::mbec_set;
+
+pub mod mbec; // whose MBEC counts
 
 // What a level asks for: a kind of access to a page, in a mode. A write has the value that it stores beside it.
 pub struct Request {
@@ -107,7 +108,7 @@ pub fn access(
         setup.pages,
         levels,
         masks,
-        mbec_set(shape, vp, actor),
+        mbec::counting_set(shape, vp, attempt),
         attempt,
     );
     let receiver = lowest(denying, enabled_set(shape, vp));

@@ -13,7 +13,7 @@ use Rattle.model.specs.declared.quantity.Mode.{Mode}
 use Rattle.model.specs.declared.quantity.Page.{Page}
 use Rattle.model.specs.declared.set.LevelSet.{LevelSet}
 use Rattle.model.specs.Bounded.{bits}
-use Rattle.model.specs.Memory.{deniesIn, mbecOn, denies, denied, receiver}
+use Rattle.model.specs.Memory.{deniesIn, mbecCounts, denies, denied, receiver}
 use Rattle.model.specs.State.{State, level, levelSet, shape, pages, partition, active, enabledOn}
 use Rattle.partition.specs.declared.access.Attempt.{Attempt}
 use Rattle.partition.specs.Denying.{deniesAttempt, denyingSet, lowestIn}
@@ -31,9 +31,9 @@ module _ (z : Shape) (P : ℕ) (x : Partition) (mbecs : LevelSet) (a : Attempt) 
   unfolding denyingSet
   denying-three = upper-bits at none-at-zero
 
--- The levels for which MBEC is on with the active level of processor v, and an attempt of that level.
+-- The levels whose MBEC counts for the active level of processor v, and an attempt of that level.
 abbrev pub mbecsOn : State → ℕ → ℕ
-mbecsOn s v = bits 4 (λ t. mbecOn s v t (active s v))
+mbecsOn s v = bits 4 (λ t. mbecCounts s v t (active s v))
 
 abbrev pub attemptOn : State → ℕ → Mode → Page → Access → Attempt
 attemptOn s v mode p access = record { actor = level (active s v); mode = mode; page = p; access = access }
@@ -44,7 +44,7 @@ module _ (s : State) (v : ℕ) (mode : Mode) (p : Page) (access : Access) where
 
   denies-of : (t : ℕ) → t < 4 → deniesAttempt (shape s) (pages s) (partition s) (levelSet (mbecsOn s v)) (attemptOn s v mode p access) t ≡ denies s v mode (p .0) access t
   unfolding denies
-  denies-of t h = rw (bit-bits 4 (λ t. mbecOn s v t (active s v)) t h)
+  denies-of t h = rw (bit-bits 4 (λ t. mbecCounts s v t (active s v)) t h)
 
   denying-set-of : bits 4 (λ t. denies s v mode (p .0) access t) ≡ denyingOn
   unfolding denyingSet

@@ -12,7 +12,7 @@ use Rattle.model.specs.State.{noLevel}
 use Rattle.model.specs.WellFormed.{_implies_}
 use Rattle.partition.specs.declared.access.Attempt.{Attempt}
 
--- Level t denies an attempt; bit t of `mbecs` tells whether MBEC is on for t and the actor.
+-- Level t denies an attempt; bit t of `mbecs` tells whether the MBEC of t counts for the actor.
 abbrev pub deniesAttempt : Shape → ℕ → Partition → LevelSet → Attempt → ℕ → Bool
 deniesAttempt z P x mbecs a t = deniesIn z P x (a .actor .0) (a .mode) (a .page .0) (a .access) t (bit (mbecs .0) t)
 

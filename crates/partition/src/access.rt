@@ -1,5 +1,5 @@
 // The access decision (01, "Memory"): the bit that an access needs, the levels that deny it, the one that receives the intercept,
-// and the host.
+// and the host. Whose MBEC counts (02, request 1) is decided in `mbec.rt` of crate `access_events`.
 ghost use mathlib.Core.Path.{_≡_};
 ghost use mathlib.Core.Bool.{_&&_};
 ghost use Rattle.word.specs.Field.{bit};
@@ -34,7 +34,7 @@ pub struct Attempt {
     pub access: Access,
 }
 
-// The number of the mask's bit that an access needs: Read, Write, or for a fetch KMX, unless MBEC is on, where a fetch in user
+// The number of the mask's bit that an access needs: Read, Write, or for a fetch KMX, unless MBEC counts, where a fetch in user
 // mode needs UMX instead.
 pub fn needed(mbec: bool, mode: Mode, access: Access) -> u32
     ensures { λ r. ⌜ r ≡ neededBit mbec mode access ⌝ }
@@ -47,7 +47,7 @@ pub fn needed(mbec: bool, mode: Mode, access: Access) -> u32
     }
 }
 
-// Does a level deny an attempt, with MBEC on for it and the actor or not?
+// Does a level deny an attempt, where its MBEC counts for the actor or not?
 fn denies(
     shape: Shape,
     pages: u64,
@@ -68,7 +68,7 @@ fn denies(
     (attempt.actor.0 < level.0) & on & !allowed
 }
 
-// The levels that deny an attempt. `mbecs` are those that have MBEC on for the actor on its processor.
+// The levels that deny an attempt. `mbecs` are those whose MBEC counts for the actor on its processor.
 pub fn denying_set(
     shape: Shape,
     pages: u64,

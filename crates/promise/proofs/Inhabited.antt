@@ -46,7 +46,7 @@ unfolding shape processors isProcessor isLevel top vp context secureOf activeOf 
 some-locked held = go held
   where
     lockedBy : ℕ → State
-    lockedBy w = stateWith (record { «max_level» = level 1; «dr6_shared» = false }) 0 (record { enabled = levelSet 1; mbec = levelSet 0; configs = []; masks = [] }) 0
+    lockedBy w = stateWith (record { «max_level» = level 1; «dr6_shared» = false; smep = false }) 0 (record { enabled = levelSet 1; mbec = levelSet 0; configs = []; masks = [] }) 0
         (record { active = level 0; enabled = levelSet 1; shared = []; contexts = noContext ∷ withSecure noContext (w ∷ []) ∷ [] }) 0 []
 
     go : (b : Bool) → SomeLocked b
