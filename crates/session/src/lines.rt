@@ -90,6 +90,7 @@ pub(crate) fn blank(phase: Phase) -> Session
         pages: 0,
         dr6_shared: 0,
         host_mask: 0,
+        smep: 0,
     };
     opened(phase, 0, none, 0)
 }

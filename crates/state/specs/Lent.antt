@@ -32,5 +32,5 @@ setupOf f = record {
   processors = f .processors;
   pages = f .pages;
   «host_mask» = f .«host_mask»;
-  shape = record { «max_level» = f .«max_level»; «dr6_shared» = eqb (f .«dr6_shared») 1 };
+  shape = record { «max_level» = f .«max_level»; «dr6_shared» = eqb (f .«dr6_shared») 1; smep = eqb (f .smep) 1 };
 }

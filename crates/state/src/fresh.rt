@@ -34,7 +34,7 @@ pub fn admissible(first: FirstLine) -> bool
 {
     let sized = in_range(first.processors, first.max_level, first.pages);
     let mask = valid_mask(first.host_mask);
-    sized & (first.dr6_shared <= 1) & mask
+    sized & (first.dr6_shared <= 1) & mask & (first.smep <= 1)
 }
 
 // What a first line says that stays the same in a run.
@@ -45,6 +45,7 @@ pub fn setup_of(first: FirstLine) -> Setup
     let shape = Shape {
         max_level,
         dr6_shared: first.dr6_shared == 1,
+        smep: first.smep == 1,
     };
     Setup {
         processors: first.processors,
