@@ -1,13 +1,13 @@
 -- The theorem that the line of an event says the event, for every event whose numbers are below 2^64, and so for a first line.
 -- Assumes nothing.
-use Prim.Native.Nat.{_+_, _*_, _≤_}
+use Prim.Native.Nat.{ℕ, _+_, _*_, _≤_}
 use mathlib.Core.Bool.{true}
 use mathlib.Core.List.{List, [], _∷_, map}
 use mathlib.Core.Option.{some}
-use mathlib.Core.Path.{_≡_, refl, ap, _∙_}
+use mathlib.Core.Path.{_≡_, refl, sym, ap, _∙_}
 use borrow.Author.Tests.{le-ltb, leb-true}
 use native.Mathlib.Omega.{arith}
-use lib.Dec.{leb}
+use lib.Dec.{eqb, leb}
 use lib.ListN.{length, length-append}
 use Rattle.decimal.specs.Write.{decimal}
 use Rattle.model.specs.declared.answer.Refusal.{Refusal}
@@ -17,10 +17,11 @@ use Rattle.model.specs.declared.event.Event.the-variants.{Made, Int}
 use Rattle.model.specs.declared.machine.FirstLine.{FirstLine}
 use Rattle.script.specs.Bytes.{same}
 use Rattle.script.specs.EventForms.{events, lineEvent}
-use Rattle.script.specs.First.{lineFirst, vsm}
-use Rattle.script.specs.LineForms.{Form, among, longestLine, numbersIn, ofNumbers, said}
-use Rattle.script.specs.Texts.{Numbers, Text, actionText, eventLine, eventText, firstLineOf, firstText, parted, written}
+use Rattle.script.specs.First.{firstForm, firstLine, lineFirst, vsm, vsmShort}
+use Rattle.script.specs.LineForms.{Form, among, fields, longestLine, numbersIn, ofNumbers, said}
+use Rattle.script.specs.Texts.{Numbers, Text, actionText, eventLine, eventText, firstLineOf, firstText, parted, shortFirstLineOf, shortFirstText, written}
 use Rattle.script.specs.declared.Parsed.the-variants as parsed
+use Rattle.script.specs.declared.Start.{Start}
 use Rattle.script.specs.declared.Start.the-variants as start
 use Rattle.script.proofs.Naming.{noTab}
 use Rattle.script.proofs.Parted.{fields-of, numbers-read, parted-length}
@@ -82,9 +83,24 @@ pub event-at-most : (e : Event) → length (eventLine e) ≤ 151
 unfolding eventLine
 event-at-most e = line-at-most (sound e)
 
--- The same of a first line.
+-- The same of a first line, which has a seventh field.
+first-fields : (text : Text FirstLine) → noTab (text .form .word) ≡ true → fields (written text) ≡ text .form .word ∷ map decimal (text .numbers)
+unfolding written
+first-fields text h = fields-of (text .form .word) (text .numbers) h
+
+abbrev saidBy : List ℕ → List (List ℕ) → Start
+saidBy line parts = said start.First start.Malformed (firstForm (eqb (length parts) 7) ∷ []) line
+
 pub first-round-trip : (first : FirstLine) → Numbers (firstText first .numbers) → lineFirst (firstLineOf first) ≡ start.First first
 unfolding lineFirst firstLineOf firstText among same
 first-round-trip first fit =
     let s : Sound start.First start.Malformed (vsm ∷ []) (firstText first) first = record { no-tab = refl; short = refl; found = refl; made-of = refl } in
-    line-says s fit
+    ap (saidBy (firstLineOf first)) (first-fields (firstText first) refl) ∙ line-says s fit
+
+-- Without it a line says that SMEP is not available.
+pub short-first-round-trip : (first : FirstLine) → Numbers (shortFirstText first .numbers) → first .smep ≡ 0 → lineFirst (shortFirstLineOf first) ≡ start.First first
+unfolding lineFirst shortFirstLineOf shortFirstText among same
+short-first-round-trip first fit none =
+    let without : ℕ → FirstLine = firstLine (first .processors) (first .«max_level» .0) (first .pages) (first .«dr6_shared») (first .«host_mask») in
+    let s : Sound start.First start.Malformed (vsmShort ∷ []) (shortFirstText first) (without 0) = record { no-tab = refl; short = refl; found = refl; made-of = refl } in
+    ap (saidBy (shortFirstLineOf first)) (first-fields (shortFirstText first) refl) ∙ line-says s fit ∙ ap (λ n. start.First (without n)) (sym none)

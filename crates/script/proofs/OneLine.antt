@@ -1,8 +1,10 @@
--- The theorem that an event has exactly one line: what is read as an event is the line of this event. So is a first line.
+-- The theorem that an event has exactly one line: what is read as an event is the line of this event. A first line has one with a
+-- seventh field, and where SMEP is not available one without.
 -- Assumes nothing.
 use Prim.Native.Nat.{ℕ, zero, suc}
 use mathlib.Core.Bool.{Bool, true, false, cond}
 use mathlib.Core.List.{List, [], _∷_, _++_, map}
+use mathlib.Core.Logic.{_⊎_, inl, inr}
 use mathlib.Core.Option.{Option, none, some}
 use mathlib.Core.Path.{_≡_, refl, sym, ap, _∙_}
 use borrow.Author.Tests.{eqb-true}
@@ -16,9 +18,9 @@ use Rattle.model.specs.declared.event.Event.{Event}
 use Rattle.model.specs.declared.machine.FirstLine.{FirstLine}
 use Rattle.script.specs.Bytes.{same}
 use Rattle.script.specs.EventForms.{events, lineEvent}
-use Rattle.script.specs.First.{lineFirst, vsm}
+use Rattle.script.specs.First.{firstForm, lineFirst, vsm, vsmShort}
 use Rattle.script.specs.LineForms.{Form, among, fields, inForm, longestLine, made, numbersIn, ofNumbers, said, saidIn}
-use Rattle.script.specs.Texts.{Text, actionText, eventLine, eventText, firstLineOf, firstText, parted, text, written}
+use Rattle.script.specs.Texts.{Text, actionText, eventLine, eventText, firstLineOf, firstText, parted, shortFirstLineOf, shortFirstText, text, written}
 use Rattle.script.specs.declared.Parsed.the-variants as parsed
 use Rattle.script.specs.declared.Start.the-variants as start
 use Rattle.script.proofs.Parted.{numbers-text, put-together, together}
@@ -96,6 +98,33 @@ module _ {A R : Type 0} (good : A → R) (bad : Refusal → R) (textOf : A → T
       go true k = absurd (apart LineTooLong a k)
       go false k = one-said-in forms (fields line) a agrees k
 
+  -- What holds of all that a form makes holds of what a line says in this form.
+  module _ (form : Form A) (P : A → Type 0) (makes : (numbers : List ℕ) → P (made (form .count) (form .value) 0 numbers)) where
+    made-in : (more : List (List ℕ)) (a : A) → inForm good bad form more ≡ good a → P a
+    made-in more a = go (eqb (length more) (form .count)) (numbersIn more)
+      where
+        go : (t : Bool) (found : Option (List ℕ)) → cond t (ofNumbers good bad form found) (bad WrongFieldCount) ≡ good a → P a
+        go true none h = absurd (apart NotANumber a h)
+        go true (some numbers) h = rw (exact _ a h) at (makes numbers)
+        go false found h = absurd (apart WrongFieldCount a h)
+
+    made-among : (word : List ℕ) (more : List (List ℕ)) (a : A) → among good bad (form ∷ []) word more ≡ good a → P a
+    unfolding among
+    made-among word more a = go (same word (form .word))
+      where
+        go : (t : Bool) → cond t (inForm good bad form more) (bad UnknownWord) ≡ good a → P a
+        go true h = made-in more a h
+        go false h = absurd (apart UnknownWord a h)
+
+    made-said : (line : List ℕ) (a : A) → said good bad (form ∷ []) line ≡ good a → P a
+    unfolding said
+    made-said line a = go (ltb longestLine (length line)) (fields line)
+      where
+        go : (t : Bool) (parts : List (List ℕ)) → cond t (bad LineTooLong) (saidIn good bad (form ∷ []) parts) ≡ good a → P a
+        go true parts h = absurd (apart LineTooLong a h)
+        go false [] h = absurd (apart UnknownWord a h)
+        go false (word ∷ more) h = made-among word more a h
+
 -- A line that is read as an event is the line of the event.
 event-apart : (r : Refusal) (e : Event) → parsed.Malformed r ≡ parsed.Event e → ⊥
 event-apart r e h = let z : _≡_ {A = ℕ} 0 1 = cc in omega arith
@@ -114,7 +143,8 @@ pub one-event-line : (line : List ℕ) (e : Event) → lineEvent line ≡ parsed
 unfolding lineEvent eventLine
 one-event-line line e h = one-said parsed.Event parsed.Malformed eventText event-apart event-exact events line e event-texts h
 
--- A line that is read as a first line is the line of what it says.
+-- A line that is read as a first line is one of the two lines of what it says: with a seventh field, or without one, where SMEP is
+-- not available.
 first-apart : (r : Refusal) (first : FirstLine) → start.Malformed r ≡ start.First first → ⊥
 first-apart r first h = let z : _≡_ {A = ℕ} 0 1 = cc in omega arith
 
@@ -125,6 +155,20 @@ first-texts : Each (Agrees firstText) (vsm ∷ [])
 unfolding firstText
 first-texts = (λ n. refl) and done
 
-pub one-first-line : (line : List ℕ) (first : FirstLine) → lineFirst line ≡ start.First first → line ≡ firstLineOf first
-unfolding lineFirst firstLineOf
-one-first-line line first h = one-said start.First start.Malformed firstText first-apart first-exact (vsm ∷ []) line first first-texts h
+short-first-texts : Each (Agrees shortFirstText) (vsmShort ∷ [])
+unfolding shortFirstText
+short-first-texts = (λ n. refl) and done
+
+pub one-first-line : (line : List ℕ) (first : FirstLine) → lineFirst line ≡ start.First first
+    → (line ≡ firstLineOf first) ⊎ ((line ≡ shortFirstLineOf first) × (first .smep ≡ 0))
+unfolding lineFirst firstLineOf shortFirstLineOf
+one-first-line line first = go (eqb (length (fields line)) 7)
+  where
+    go : (seventh : Bool) → said start.First start.Malformed (firstForm seventh ∷ []) line ≡ start.First first
+        → (line ≡ firstLineOf first) ⊎ ((line ≡ shortFirstLineOf first) × (first .smep ≡ 0))
+    go true h = inl (one-said start.First start.Malformed firstText first-apart first-exact (vsm ∷ []) line first first-texts h)
+    go false h =
+        inr (
+          one-said start.First start.Malformed shortFirstText first-apart first-exact (vsmShort ∷ []) line first short-first-texts h,
+          made-said start.First start.Malformed shortFirstText first-apart first-exact vsmShort (λ f. f .smep ≡ 0) (λ n. refl) line first h,
+        )

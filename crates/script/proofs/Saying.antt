@@ -29,7 +29,7 @@ before-zeros [] rest i h = h i
 before-zeros (n ∷ numbers) rest zero h = refl
 before-zeros (n ∷ numbers) rest (suc i) h = before-zeros numbers rest i h
 
-stored-number : (numbers : List ℕ) (i : ℕ) → length numbers ≤ 7 → getD (sets (replicate 7 0) 0 numbers) i 0 ≡ getD numbers i 0
+pub stored-number : (numbers : List ℕ) (i : ℕ) → length numbers ≤ 7 → getD (sets (replicate 7 0) 0 numbers) i 0 ≡ getD numbers i 0
 stored-number numbers i h =
     let row : List ℕ = replicate 7 0 in
     ap (λ (l : List ℕ). getD l i 0) (sets-eq numbers row 0 (omega arith))

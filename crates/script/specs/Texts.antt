@@ -5,7 +5,7 @@ use Prim.Native.Nat.{ℕ, _<_, _^_}
 use Rattle.decimal.specs.Write.{decimal}
 use Rattle.script.specs.EventForms.{Action, Enpart, Envp, Call, Ret, Read, Write, Fetch, Protect, Config, Secure, Flush, Rreg, Wreg, Tpr, Ack, Pstat, Vstat, Caps}
 use Rattle.script.specs.EventForms.{Event, Made, Int, byLevel, enpart, envp, call, ret, read, write, fetch, protect, config, secure, flush, rreg, wreg, tpr, ack, int, pstat, vstat, caps}
-use Rattle.script.specs.First.{FirstLine, vsm}
+use Rattle.script.specs.First.{FirstLine, vsm, vsmShort}
 use Rattle.script.specs.LineForms.{Form, tab}
 
 -- Fields, each after a tab.
@@ -55,10 +55,19 @@ eventLine e = written (eventText e)
 
 -- The first line for what a machine is made from.
 unfoldable pub firstText : FirstLine → Text FirstLine
-firstText first = text vsm (first .processors ∷ first .«max_level» .0 ∷ first .pages ∷ first .«dr6_shared» ∷ first .«host_mask» ∷ [])
+firstText first =
+    text vsm (first .processors ∷ first .«max_level» .0 ∷ first .pages ∷ first .«dr6_shared» ∷ first .«host_mask» ∷ first .smep ∷ [])
 
 unfoldable pub firstLineOf : FirstLine → List ℕ
 firstLineOf first = written (firstText first)
+
+-- The same without the field for SMEP.
+unfoldable pub shortFirstText : FirstLine → Text FirstLine
+shortFirstText first =
+    text vsmShort (first .processors ∷ first .«max_level» .0 ∷ first .pages ∷ first .«dr6_shared» ∷ first .«host_mask» ∷ [])
+
+unfoldable pub shortFirstLineOf : FirstLine → List ℕ
+shortFirstLineOf first = written (shortFirstText first)
 
 -- Numbers are 0 to 2^64-1.
 abbrev pub Numbers : List ℕ → Type 0

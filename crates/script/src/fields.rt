@@ -23,7 +23,7 @@ fn number_end(line: &[u8], start: usize) -> usize
 }
 
 // How many fields come after the one that ends at `from`: as many as tabs.
-fn count_after(line: &[u8], from: usize) -> usize
+pub(crate) fn count_after(line: &[u8], from: usize) -> usize
     ensures { λ r. ⌜ r ≡ length (fieldsAfter (now (line .entry)) from) ⌝ }
 {
     if line.len() <= from {

@@ -1,8 +1,11 @@
 // The lines of a script (01, "Script and listing"): a line as an event, and the first line as what a machine is made from. Every
 // function takes any arguments.
 ghost use mathlib.Core.Path.{_≡_};
+ghost use lib.Dec.{eqb};
+ghost use lib.ListN.{length};
 ghost use Rattle.script.specs.EventForms.{lineEvent};
-ghost use Rattle.script.specs.First.{lineFirst};
+ghost use Rattle.script.specs.First.{firstForm, lineFirst};
+ghost use Rattle.script.specs.NumberRows.{fieldsAfter};
 use crate::words::Named;
 use model::answer::Refusal;
 use model::event::Event;
@@ -46,7 +49,17 @@ pub fn parse(line: &[u8]) -> Parsed
     Parsed::Event(line_events::event(word, &values))
 }
 
-// What the first line says.
+// How many numbers follow the word `vsm`: six where the line has a seventh field, else five.
+fn first_takes(line: &[u8]) -> usize
+    ensures { λ r. ⌜ r ≡ firstForm (eqb (length (fieldsAfter (now (line .entry)) 3)) 6) .count ⌝ }
+{
+    if fields::count_after(line, 3) == 6 {
+        return 6;
+    }
+    5
+}
+
+// What the first line says. Without a seventh field SMEP is not available.
 pub fn parse_first(line: &[u8]) -> Start
     ensures { λ r. ⌜ r ≡ lineFirst (now (line .entry)) ⌝ }
 {
@@ -56,9 +69,10 @@ pub fn parse_first(line: &[u8]) -> Start
     if !words::begins(line, b"vsm") {
         return Start::Malformed(Refusal::UnknownWord);
     }
+    let takes = first_takes(line);
     let mut values = [0u64; 7];
-    if !fields::numbers(line, 3, 5, &mut values) {
-        return Start::Malformed(fields::refusal(line, 3, 5));
+    if !fields::numbers(line, 3, takes, &mut values) {
+        return Start::Malformed(fields::refusal(line, 3, takes));
     }
     Start::First(FirstLine {
         processors: values[0],
@@ -66,5 +80,6 @@ pub fn parse_first(line: &[u8]) -> Start
         pages: values[2],
         dr6_shared: values[3],
         host_mask: values[4],
+        smep: values[5],
     })
 }
