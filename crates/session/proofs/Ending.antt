@@ -26,7 +26,7 @@ use Rattle.model.specs.declared.machine.FirstLine.{FirstLine}
 use Rattle.model.specs.declared.quantity.Level.{Level}
 use Rattle.model.specs.declared.quantity.Processor.{Processor}
 use Rattle.script.specs.EventForms.{events, lineEvent}
-use Rattle.script.specs.First.{lineFirst, vsm}
+use Rattle.script.specs.First.{firstForm, lineFirst}
 use Rattle.script.specs.LineForms.{Form, fields, said, saidIn}
 use Rattle.script.specs.declared.Parsed.{Parsed}
 use Rattle.script.specs.declared.Parsed.the-variants as parsed
@@ -211,19 +211,19 @@ ended-later q phase.First number s line e h = absurd (omega (arith, ap (λ (x : 
 ended-later q phase.Later number s line e h = ap (later number s) (ap bytesOf h ∙ ended-bytes q)
 ended-later q phase.Stopped number s line e h = absurd (false≢true (sym e))
 
--- The bytes that are kept of a line say what the line says.
-module _ {A R : Type 0} (good : A → R) (bad : Refusal → R) (forms : List (Form A)) (line : List ℕ) where
-  pub said-kept : said good bad forms (take 257 line) ≡ said good bad forms line
+-- The bytes that are kept of a line say what the line says, in forms that may depend on the line: one that is cut is too long in all.
+module _ {A R : Type 0} (good : A → R) (bad : Refusal → R) (forms : List ℕ → List (Form A)) (line : List ℕ) where
+  pub said-kept : said good bad (forms (take 257 line)) (take 257 line) ≡ said good bad (forms line) line
   unfolding said
   said-kept = go (ltb 256 (length line)) refl
     where
       go : (t : Bool) → ltb 256 (length line) ≡ t
-          → cond (ltb 256 (length (take 257 line))) (bad LineTooLong) (saidIn good bad forms (fields (take 257 line))) ≡ cond t (bad LineTooLong) (saidIn good bad forms (fields line))
+          → cond (ltb 256 (length (take 257 line))) (bad LineTooLong) (saidIn good bad (forms (take 257 line)) (fields (take 257 line))) ≡ cond t (bad LineTooLong) (saidIn good bad (forms line) (fields line))
       go true e = rw (lt-ltb 256 (length (take 257 line)) (omega (arith, length-take 257 line, ltb-true 256 (length line) e)))
       go false e = rw (take-all 257 line (omega (arith, ltb-false 256 (length line) e)), e)
 
 pub ended-kept : (p : Progress) → ended (kept p) ≡ ended p
 unfolding ended lineEvent lineFirst
-ended-kept (first line) = ap (λ (x : Start). begun (stateBy x)) (said-kept start.First start.Malformed (vsm ∷ []) line)
-ended-kept (later number s line) = ap (λ (x : Parsed). continued number (answered s x)) (said-kept parsed.Event parsed.Malformed events line)
+ended-kept (first line) = ap (λ (x : Start). begun (stateBy x)) (said-kept start.First start.Malformed (λ l. firstForm (eqb (length (fields l)) 7) ∷ []) line)
+ended-kept (later number s line) = ap (λ (x : Parsed). continued number (answered s x)) (said-kept parsed.Event parsed.Malformed (λ l. events) line)
 ended-kept stopped = refl
