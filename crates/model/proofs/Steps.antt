@@ -121,9 +121,13 @@ module _ (K : ℕ) (E : ℕ → ℕ → Bool) (H : ℕ → Bool) where
   needs-same s v t l = simp (shape-same, vp-hide, secure-same)
 
   -- The actor's own CR4 is seen, so whether MBEC counts is too.
+  smep-same : (s : State) (v : ℕ) → active s v < K → smepAllows (shape (hide K E H s)) (vp (hide K E H s) v) (active s v) ≡ smepAllows (shape s) (vp s v) (active s v)
+  unfolding smepAllows isPrivate
+  smep-same s v h = rw (shape-same, vp-hide, Visible.private-hide K (E v) (shape s) (vp s v) (active s v) cr4 h refl)
+
   counts-same : (s : State) (v t : ℕ) → active s v < K → mbecCounts (hide K E H s) v t (active s v) ≡ mbecCounts s v t (active s v)
-  unfolding mbecCounts smepAllows isPrivate
-  counts-same s v t h = rw (needs-same s v t (active s v), shape-same, vp-hide, Visible.private-hide K (E v) (shape s) (vp s v) (active s v) cr4 h refl)
+  unfolding mbecCounts
+  counts-same s v t h i = needs-same s v t (active s v) i && smep-same s v h i
 
   denies-same : (s : State) (v : ℕ) → active s v < K → (mode : Mode) (p : ℕ) (a : Access) (t : ℕ) → denies (hide K E H s) v mode p a t ≡ denies s v mode p a t
   unfolding denies
