@@ -12,14 +12,14 @@ use Rattle.model.specs.Claims.{FreshWellFormed}
 use Rattle.model.specs.Fresh.{admissible, levelZeroAlone, freshVp, fresh}
 use Rattle.model.specs.Masks.{validMask, defaultMask, turnsOn, reservedSet}
 use Rattle.model.specs.State.{FirstLine, inRange, isLevel, inSet, isProcessor, noContext, pastContext, processors, shape, top, maxLevel, pages, partition, vp, context, activeOf, enabledAt, enabledOn, enabledFor, mbecFor, configIn, configOf, maskIn, maskOf}
-use Rattle.model.specs.WellFormed.{wellSized, wellFormedContext, wellFormedVp, wellFormedLevel, wellFormedParts, wellModedVp, wellModed, wellFormed}
+use Rattle.model.specs.WellFormed.{wellSized, neverEntered, wellFormedContext, wellFormedVp, wellFormedLevel, wellFormedParts, wellModedVp, wellModed, wellFormed}
 use Rattle.model.proofs.Bools.{and-left, and-right, and-both, implies-test, hold, all-hold, cond-same, cond-holds}
 use Rattle.model.proofs.BoundedLaws.{every-all}
 use Rattle.model.proofs.Four.{below-four}
 use Rattle.model.proofs.LevelSets.{none-in}
 
 context-ok : (mbec fromOn : Bool) (l : ℕ) → l ≤ 3 → wellFormedContext l (eqb l 0) (eqb l 0) mbec fromOn noContext ≡ true
-unfolding wellFormedContext numberAt every allOf
+unfolding wellFormedContext neverEntered numberAt every allOf
 context-ok mbec fromOn l h = below-four (λ l. wellFormedContext l (eqb l 0) (eqb l 0) mbec fromOn noContext ≡ true) refl refl refl refl l (omega (arith, h))
 
 -- What holds of an entry and of 0 holds of what is read from a list of such entries.

@@ -7,7 +7,7 @@ use Prim.Native.Nat.{ℕ, zero, suc, _/_, _%_, _≤_, _<_}
 use native.Mathlib.Omega.{arith}
 use lib.Dec.{leb, ltb, eqb}
 use lib.ListN.{length, length-set}
-use borrow.Author.Tests.{lt-ltb, ltb-true}
+use borrow.Author.Tests.{lt-ltb, ltb-true, not-true}
 use Rattle.word.specs.Field.{field, put, bit}
 use Rattle.word.proofs.FieldLaws.{take-put-below, take-put-above, bit-put-below}
 use Rattle.model.specs.Arrays.{numberAt}
@@ -17,7 +17,7 @@ use Rattle.model.specs.Masks.{secureReservedSet}
 use Rattle.model.specs.Registers.{rip, rax, rcx, isPrivate, sharedOf}
 use Rattle.model.specs.State.{Context, Control, Shape, VirtualProcessor, isLevel, context, activeOf, enabledAt, isPending, mbecBit, lockBit}
 use Rattle.model.specs.Updates.{withSecure, withControl, withActive, putContext, setShared, setPrivate, setRegister, setTpr, setPending, setSecure, cleared, unlocked}
-use Rattle.model.specs.WellFormed.{wellEntered, wellFormedContext}
+use Rattle.model.specs.WellFormed.{neverEntered, wellEntered, wellFormedContext}
 use Rattle.model.proofs.ArrayLaws.{number-cases}
 use Rattle.model.proofs.Bools.{and-left, and-right, and-both, implied, implies-test, hold, all-hold, cond-holds}
 use Rattle.model.proofs.BoundedLaws.{every-at, every-all, highest-found}
@@ -37,6 +37,7 @@ pub record Sound (l : ℕ) (on mbec : Bool) (up : ℕ → Bool) (enabled : Bool)
   pub class : leb tpr 15 ≡ true
   pub low : eqb (field 0 16 (numberAt 4 pending 0)) 0 ≡ true
   pub idle : enabled ≡ false → every 4 (λ i. eqb (numberAt 4 pending i) 0) ≡ true
+  pub blank : 0 < l → enabled ≡ false → neverEntered control ≡ true
 
 abbrev pub SoundContext : ℕ → Bool → Bool → Bool → (ℕ → Bool) → Context → Type 0
 SoundContext l on enabled mbec up c = Sound l on mbec up enabled (c .tpr) (c .pending) (c .secure) (c .control)
@@ -48,13 +49,13 @@ sound-test l on enabled mbec up c g = all-hold _ (
   implies-test enabled on (g .part),
   (
     implies-test (ltb 0 l && enabled) _ (λ h. g .entry (ltb-true 0 l (and-left (ltb 0 l) enabled h)) (and-right (ltb 0 l) enabled h)),
-    (every-all l _ (g .words), (g .class, (g .low, (go enabled (g .idle), tt)))),
+    (every-all l _ (g .words), (g .class, (g .low, (unless enabled _ (g .idle), (implies-test (ltb 0 l && not enabled) _ (λ h. g .blank (ltb-true 0 l (and-left (ltb 0 l) _ h)) (not-true enabled (and-right (ltb 0 l) _ h))), tt))))),
   ),
 )
   where
-    go : (b : Bool) → (b ≡ false → every 4 (λ i. eqb (numberAt 4 (c .pending) i) 0) ≡ true) → (b || every 4 (λ i. eqb (numberAt 4 (c .pending) i) 0)) ≡ true
-    go true f = refl
-    go false f = f refl
+    unless : (b t : Bool) → (b ≡ false → t ≡ true) → (b || t) ≡ true
+    unless true t f = refl
+    unless false t f = f refl
 
 pub test-sound : (l : ℕ) (on enabled mbec : Bool) (up : ℕ → Bool) (c : Context) → wellFormedContext l on enabled mbec (up (c .control .from .0)) c ≡ true → SoundContext l on enabled mbec up c
 unfolding wellFormedContext
@@ -66,12 +67,13 @@ test-sound l on enabled mbec up c h =
       words = every-at l _ (t .1 .1 .0);
       class = t .1 .1 .1 .0;
       low = t .1 .1 .1 .1 .0;
-      idle = go enabled (t .1 .1 .1 .1 .1 .0);
+      idle = other enabled _ (t .1 .1 .1 .1 .1 .0);
+      blank = λ o e. implied (ltb 0 l && not enabled) _ (t .1 .1 .1 .1 .1 .1 .0) (rw (lt-ltb 0 l o, e) refl);
     }
   where
-    go : (b : Bool) → (b || every 4 (λ i. eqb (numberAt 4 (c .pending) i) 0)) ≡ true → b ≡ false → every 4 (λ i. eqb (numberAt 4 (c .pending) i) 0) ≡ true
-    go true q e = absurd (true≢false e)
-    go false q e = q
+    other : (b t : Bool) → (b || t) ≡ true → b ≡ false → t ≡ true
+    other true t q e = absurd (true≢false e)
+    other false t q e = q
 
 -- More levels enabled, on the processor and for the partition.
 pub sound-more : (l : ℕ) (on on′ enabled mbec mbec′ : Bool) (up up′ : ℕ → Bool) (c : Context) → (on ≡ true → on′ ≡ true) → (mbec ≡ true → mbec′ ≡ true) → ((i : ℕ) → up i ≡ true → up′ i ≡ true) →
@@ -84,6 +86,7 @@ sound-more l on on′ enabled mbec mbec′ up up′ c f m u g = record {
   class = g .class;
   low = g .low;
   idle = g .idle;
+  blank = g .blank;
 }
   where
     more : (w : ℕ) → allowed mbec w ≡ true → allowed mbec′ w ≡ true
@@ -137,6 +140,7 @@ module _ (z : Shape) (on mbec : ℕ → Bool) where
         class = h .class;
         low = h .low;
         idle = h .idle;
+        blank = λ o d. absurd (true≢false (sym u ∙ d));
       })) (rw (put-enabled z p l _ l) u)
 
   advanced-sound : (p : VirtualProcessor) (n : ℕ) → SoundVp p → SoundVp (advanced z p n)
@@ -163,6 +167,7 @@ module _ (z : Shape) (on mbec : ℕ → Bool) where
     low = number-cases (λ y. eqb (field 0 16 y) 0 ≡ true) 4 (context z p l .pending) (n / 64) 0 _ (h .low) (λ e.
         rw (take-put-below (n % 64) 1 0 16 (numberAt 4 (context z p l .pending) (n / 64)) x (omega arith), sym e) (h .low));
     idle = λ d. absurd (true≢false (sym u ∙ d));
+    blank = h .blank;
   })
 
   pub interrupted-sound : (p : VirtualProcessor) (g n : ℕ) → 16 ≤ n → enabledAt z p g ≡ true → SoundVp p → SoundVp (interrupted z p g n)
@@ -194,12 +199,12 @@ module _ (z : Shape) (on mbec : ℕ → Bool) where
 
   pub setTpr-sound : (p : VirtualProcessor) (l class : ℕ) → isLevel z l ≡ true → leb class 15 ≡ true → SoundVp p → SoundVp (setTpr z p l class)
   unfolding setTpr
-  setTpr-sound p l class i c g = put-sound p l _ i g (λ h. record { part = h .part; entry = h .entry; words = h .words; class = c; low = h .low; idle = h .idle })
+  setTpr-sound p l class i c g = put-sound p l _ i g (λ h. record { part = h .part; entry = h .entry; words = h .words; class = c; low = h .low; idle = h .idle; blank = h .blank })
 
   -- Secure words.
   words-sound : (p : VirtualProcessor) (t : ℕ) (ws : List ℕ) → isLevel z t ≡ true → ((j : ℕ) → j < t → allowed (mbec t) (numberAt 4 (context z p t .secure) j) ≡ true → allowed (mbec t) (numberAt 4 ws j) ≡ true) → SoundVp p →
       SoundVp (putContext z p t (withSecure (context z p t) ws))
-  words-sound p t ws i f g = put-sound p t _ i g (λ h. record { part = h .part; entry = h .entry; words = λ j b. f j b (h .words j b); class = h .class; low = h .low; idle = h .idle })
+  words-sound p t ws i f g = put-sound p t _ i g (λ h. record { part = h .part; entry = h .entry; words = λ j b. f j b (h .words j b); class = h .class; low = h .low; idle = h .idle; blank = h .blank })
 
   pub setSecure-sound : (p : VirtualProcessor) (t l w : ℕ) → isLevel z t ≡ true → allowed (mbec t) w ≡ true → SoundVp p → SoundVp (setSecure z p t l w)
   unfolding setSecure
@@ -271,6 +276,7 @@ module _ (z : Shape) (on mbec : ℕ → Bool) where
           class = refl;
           low = unfold numberAt in refl;
           idle = λ d. absurd (true≢false d);
+          blank = λ o d. absurd (true≢false d);
         })
         (λ l n b. sound-more l (on l) (on l) (enabledAt z p l) (mbec l) (mbec l) (enabledAt z p) (enabledAt z q) (context z p l) (λ e. e) (λ e. e) more (g .each l b)) j b;
   }

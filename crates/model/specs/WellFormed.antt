@@ -30,10 +30,14 @@ wellEntered l fromOn k = allOf (
     ∷ leb (k .reason) 2
     ∷ [])
 
+-- Reason, the level left, RAX and RCX are 0 in the control record of a level that is not enabled (02, request 2).
+unfoldable pub neverEntered : Control → Bool
+neverEntered k = allOf (eqb (k .reason) 0 ∷ eqb (k .from .0) 0 ∷ eqb (k .rax) 0 ∷ eqb (k .rcx) 0 ∷ [])
+
 -- What a processor holds of level l, where the partition has the level enabled as `on` tells, the processor as `enabled` does,
 -- and the partition has MBEC for it as `mbec` tells. A processor's enabled levels are within the partition's; its MBEC only
 -- where the partition has it for the setting level. TPR in range; pending vectors only 16..255 (0..15 are the low 16 bits of
--- the first word) and only at enabled levels.
+-- the first word) and only at enabled levels. A level above 0 that is not enabled was never entered.
 unfoldable pub wellFormedContext : ℕ → Bool → Bool → Bool → Bool → Context → Bool
 wellFormedContext l on enabled mbec fromOn c = allOf (
     (enabled implies on)
@@ -42,6 +46,7 @@ wellFormedContext l on enabled mbec fromOn c = allOf (
     ∷ leb (c .tpr) 15
     ∷ eqb (field 0 16 (numberAt 4 (c .pending) 0)) 0
     ∷ (enabled || every 4 (λ i. eqb (numberAt 4 (c .pending) i) 0))
+    ∷ ((ltb 0 l && not enabled) implies neverEntered (c .control))
     ∷ [])
 
 -- A processor, where the partition holds x: level 0 is enabled everywhere; the active level is enabled. (That an array of four

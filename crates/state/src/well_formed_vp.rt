@@ -9,7 +9,7 @@ ghost use Rattle.model.specs.Arrays.{numberAt};
 ghost use Rattle.model.specs.Bounded.{every};
 ghost use Rattle.model.specs.Registers.{cr0, protectedBit, privateOf};
 ghost use Rattle.model.specs.State.{context, enabledAt, inSet};
-ghost use Rattle.model.specs.WellFormed.{_implies_, wellEntered, wellFormedContext, wellFormedVp, wellModedVp};
+ghost use Rattle.model.specs.WellFormed.{_implies_, neverEntered, wellEntered, wellFormedContext, wellFormedVp, wellModedVp};
 ghost use Rattle.partition.specs.PartitionView.{enabledIn, mbecIn, partitionOf};
 ghost use Rattle.processor.specs.Record.{levelWords, vpOf, wordIn};
 ghost use Rattle.state.specs.SecureWord.{wellConfigured};
@@ -59,6 +59,13 @@ fn well_entered(level: Level, from_enabled: bool, control: Control) -> bool
     (from < level.0) & from_enabled & (!(reason == 0) | (from == 0)) & (reason <= BY_INTERRUPT)
 }
 
+// Are reason, level left, RAX and RCX 0?
+fn never_entered(control: Control) -> bool
+    ensures { λ r. ⌜ r ≡ neverEntered control ⌝ }
+{
+    (control.reason == 0) & (control.from.0 == 0) & (control.rax == 0) & (control.rcx == 0)
+}
+
 // Has a secure configuration word no reserved bit, and MBEC only where the partition has it for the setting level?
 fn well_configured(word: u64, mbec: bool) -> bool
     ensures { λ r. ⌜ r ≡ wellConfigured mbec word ⌝ }
@@ -105,6 +112,7 @@ fn well_formed_context(shape: Shape, levels: &Levels, vp: &Record, level: Level)
     let enabled = record::enabled_at(shape, vp, level);
     let control = control_of(shape, vp, level);
     let entered = well_entered(level, record::enabled_at(shape, vp, control.from), control);
+    let never = never_entered(control);
     let configured = well_configured_below(shape, vp, level, mbec);
     let class = row_word(shape, vp, level, record::TPR);
     // Vectors below the first are never pending: they are the low bits of the first word.
@@ -117,6 +125,7 @@ fn well_formed_context(shape: Shape, levels: &Levels, vp: &Record, level: Level)
         & (class <= HIGHEST_CLASS)
         & (low == 0)
         & (enabled | none)
+        & (!((0 < level.0) & !enabled) | never)
 }
 
 // Is a processor well formed, but for real mode? Of the partition only the levels are read, not the masks.

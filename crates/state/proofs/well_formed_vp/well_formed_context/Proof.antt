@@ -12,18 +12,19 @@ use Rattle.state.proofs.well_formed_vp.well_formed_context.Tie as tie
 returns : tie.Need-returns
 unfolding wellFormedContext
 returns c =
-    let vectors = c .before .before in
+    let vectors = c .before .before .before in
     let words = vectors .before .before in
-    let control = words .before .before .before in
+    let control = words .before .before .before .before in
     let sets = control .before .before in
     let a = sets .before .before .before .args in
     rw (
-      c .before .none-pending .ensures,
+      c .before .before .none-pending .ensures,
       vectors .take .ensures,
       vectors .before .row-word2 .ensures ∙ pending-read (a .shape) (now (a .vp)) (a .level .0) 0 (omega arith),
       words .row-word .ensures ∙ tpr-read (a .shape) (now (a .vp)) (a .level .0),
       words .before .well-configured-below .ensures,
-      words .before .before .well-entered .ensures,
+      words .before .before .never-entered .ensures,
+      words .before .before .before .well-entered .ensures,
       control .enabled-at2 .ensures,
       control .before .control-of .ensures,
       sets .enabled-at .ensures,
@@ -37,5 +38,5 @@ well-formed-context-spec =
     tie.close
     (tie.spec
     (λ c κs. search needs) (λ c κs. search needs) (λ c κs. search needs) (λ c κs. search needs) (λ c κs. search needs)
-    (λ c κs. search needs) (λ c κs. search needs) (λ c κs. search needs) (λ c κs. search needs) (λ c. search needs) (λ c κs. search needs)
-    (λ c κs. search needs) returns)
+    (λ c κs. search needs) (λ c κs. search needs) (λ c κs. search needs) (λ c κs. search needs) (λ c κs. search needs) (λ c. search needs)
+    (λ c κs. search needs) (λ c κs. search needs) returns)
