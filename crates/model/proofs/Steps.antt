@@ -111,7 +111,7 @@ module _ (K : ℕ) (E : ℕ → ℕ → Bool) (H : ℕ → Bool) where
   unfolding wellModed
   modes-hide s h = every-all 4 _ (λ v i. rw (shape-same, vp-hide) (vp-modes K (E v) (shape s) (vp s v) (every-at 4 _ h v i)))
 
-  formed-hide : (s : State) → wellModed s ≡ true → wellFormed (hide K E H s) ≡ wellFormed s
+  pub formed-hide : (s : State) → wellModed s ≡ true → wellFormed (hide K E H s) ≡ wellFormed s
   unfolding wellFormed
   formed-hide s h = and-cong (and-cong (sized-hide s) (λ z. parts-hide s)) (λ z. modes-hide s h ∙ sym h)
 

@@ -91,11 +91,15 @@ first-fields text h = fields-of (text .form .word) (text .numbers) h
 abbrev saidBy : List ℕ → List (List ℕ) → Start
 saidBy line parts = said start.First start.Malformed (firstForm (eqb (length parts) 7) ∷ []) line
 
-pub first-round-trip : (first : FirstLine) → Numbers (firstText first .numbers) → lineFirst (firstLineOf first) ≡ start.First first
-unfolding lineFirst firstLineOf firstText among same
-first-round-trip first fit =
+pub first-said : (first : FirstLine) → Numbers (firstText first .numbers) → said start.First start.Malformed (vsm ∷ []) (firstLineOf first) ≡ start.First first
+unfolding firstLineOf firstText among same
+first-said first fit =
     let s : Sound start.First start.Malformed (vsm ∷ []) (firstText first) first = record { no-tab = refl; short = refl; found = refl; made-of = refl } in
-    ap (saidBy (firstLineOf first)) (first-fields (firstText first) refl) ∙ line-says s fit
+    line-says s fit
+
+pub first-round-trip : (first : FirstLine) → Numbers (firstText first .numbers) → lineFirst (firstLineOf first) ≡ start.First first
+unfolding lineFirst firstLineOf firstText
+first-round-trip first fit = ap (saidBy (firstLineOf first)) (first-fields (firstText first) refl) ∙ first-said first fit
 
 -- Without it a line says that SMEP is not available.
 pub short-first-round-trip : (first : FirstLine) → Numbers (shortFirstText first .numbers) → first .smep ≡ 0 → lineFirst (shortFirstLineOf first) ≡ start.First first

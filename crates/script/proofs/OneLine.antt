@@ -159,6 +159,11 @@ short-first-texts : Each (Agrees shortFirstText) (vsmShort ∷ [])
 unfolding shortFirstText
 short-first-texts = (λ n. refl) and done
 
+pub one-full-first-line : (line : List ℕ) (first : FirstLine) → said start.First start.Malformed (vsm ∷ []) line ≡ start.First first
+    → line ≡ firstLineOf first
+unfolding firstLineOf
+one-full-first-line line first h = one-said start.First start.Malformed firstText first-apart first-exact (vsm ∷ []) line first first-texts h
+
 pub one-first-line : (line : List ℕ) (first : FirstLine) → lineFirst line ≡ start.First first
     → (line ≡ firstLineOf first) ⊎ ((line ≡ shortFirstLineOf first) × (first .smep ≡ 0))
 unfolding lineFirst firstLineOf shortFirstLineOf
@@ -166,7 +171,7 @@ one-first-line line first = go (eqb (length (fields line)) 7)
   where
     go : (seventh : Bool) → said start.First start.Malformed (firstForm seventh ∷ []) line ≡ start.First first
         → (line ≡ firstLineOf first) ⊎ ((line ≡ shortFirstLineOf first) × (first .smep ≡ 0))
-    go true h = inl (one-said start.First start.Malformed firstText first-apart first-exact (vsm ∷ []) line first first-texts h)
+    go true h = inl (one-full-first-line line first h)
     go false h =
         inr (
           one-said start.First start.Malformed shortFirstText first-apart first-exact (vsmShort ∷ []) line first short-first-texts h,
