@@ -15,13 +15,13 @@ use Rattle.model.specs.declared.machine.FirstLine.{FirstLine}
 use Rattle.model.specs.State.{State}
 use Rattle.model.specs.WellFormed.{wellFormed}
 use Rattle.script.specs.LineForms.{tab}
-use Rattle.script.specs.ListingLine.{lineFeed}
+use Rattle.script.specs.ListingLine.{cell, lineFeed}
 use Rattle.script.specs.Records.{Lines, inFront, lastLine, lines, linesIn}
 use Rattle.script.specs.Texts.{parted, firstText, firstLineOf, written}
 use Rattle.records.specs.Places.{Place, PartitionEnabled, Mbec, Config, Active, Shared, Register, Tpr, Pending, Enabled, Secure, Reason, From, Rax, Rcx, Word, Mask, places}
 use Rattle.records.specs.Claims.{OnlyRecords, ReadBack, SameBytes}
 use Rattle.records.specs.Reading.{passedOn}
-use Rattle.records.specs.Texts.{headOf, front, recordLine, firstOf, linesAt, recordLines, ended, recordsText}
+use Rattle.records.specs.Texts.{headOf, closed, front, recordLine, firstOf, linesAt, recordLines, ended, recordsText}
 use Rattle.records.specs.Values.{setupAt, valueAt, plain, Sized}
 use Rattle.records.proofs.Passing.{passed-back, passed-only, same-lines, equal-lines}
 
@@ -62,12 +62,18 @@ word-no-feed (Rcx v l) = refl
 word-no-feed (Word p) = refl
 word-no-feed (Mask p t) = refl
 
+closed-no-feed : (numbers : List ℕ) → noFeed (closed numbers) ≡ true
+unfolding closed cell
+closed-no-feed [] = refl
+closed-no-feed (n ∷ numbers) =
+    no-feed-append (decimal n ++ tab ∷ []) (closed numbers) (no-feed-append (decimal n) (tab ∷ []) (digits-no-feed (decimal n) (text-digits n)) refl)
+    (closed-no-feed numbers)
+
 record-no-feed : (p : Place) (x : ℕ) → noFeed (recordLine p x) ≡ true
 unfolding recordLine front
 record-no-feed p x =
-    no-feed-append (headOf p .word ++ parted (map decimal (headOf p .indices)) ++ tab ∷ []) (decimal x)
-    (no-feed-append (headOf p .word ++ parted (map decimal (headOf p .indices))) (tab ∷ [])
-    (no-feed-append (headOf p .word) (parted (map decimal (headOf p .indices))) (word-no-feed p) (numbers-no-feed (headOf p .indices))) refl)
+    no-feed-append (headOf p .word ++ tab ∷ closed (headOf p .indices)) (decimal x)
+    (no-feed-append (headOf p .word) (tab ∷ closed (headOf p .indices)) (word-no-feed p) (closed-no-feed (headOf p .indices)))
     (digits-no-feed (decimal x) (text-digits x))
 
 first-no-feed : (f : FirstLine) → noFeed (firstLineOf f) ≡ true

@@ -8,3 +8,4 @@ pub mod Lines  -- one line: its number, and no other
 pub mod Walks  -- the walk goes along the sequence
 pub mod Passing  -- the theorems: reading what was written, only such texts, same bytes
 pub mod Bytes  -- the same of bytes
+pub mod Lengths  -- how long the text is

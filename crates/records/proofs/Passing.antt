@@ -122,7 +122,7 @@ only-same c f g h = fun-ext (λ p. go p (has c p) refl)
 
 module _ (s : State) (w : wellFormed s ≡ true) (sized : Sized s) where
   run : Run (setupAt s) 0 (places (setupAt s)) (endRank (setupAt s))
-  run = places-run (setupAt s) (small s w sized)
+  run = places-run (setupAt s) (small s w)
 
   fit : (p : Place) → Fit p (valueAt s p)
   fit p = record { word = sized .fits p; flag = yes-no s p }
@@ -152,7 +152,7 @@ module _ (s : State) (w : wellFormed s ≡ true) (sized : Sized s) where
   first-fits : Numbers (firstText (firstOf (setupAt s)) .numbers)
   unfolding firstText wellFormedParts top
   first-fits =
-      let few = small s w sized in
+      let few = small s w in
       let host : s .machine .«host_mask» ≤ 15 = leb-true (s .machine .«host_mask») 15 (and-left (leb (s .machine .«host_mask») 15) _ (hold _ (well-parts s w) .1 .1 .0)) in
       let shared = flag-small (s .machine .shape .«dr6_shared») in
       let smep = flag-small (s .machine .shape .smep) in

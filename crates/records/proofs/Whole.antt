@@ -69,10 +69,8 @@ set-is z x lowest quantity first each = ap levelSet (bits-cong 4 (inSet z x) (λ
     go zero = first
     go (suc l) = rw (ne-eqb (suc l) 0 (λ k. omega arith), each (suc l) (omega arith)) (outside (suc l) (isLevel z (suc l)) refl)
 
-module _ (s : State) (w : wellFormed s ≡ true) (sized : Sized s) where
-  g : Place → ℕ
-  g = only (setupAt s) (valueAt s)
-
+-- The sizes of a well-formed state.
+module _ (s : State) (w : wellFormed s ≡ true) where
   sizes : inRange (processors s) (maxLevel s) (pages s) ≡ true
   unfolding wellSized
   sizes = and-left (inRange (processors s) (maxLevel s) (pages s)) _ (well-sized s w)
@@ -93,8 +91,12 @@ module _ (s : State) (w : wellFormed s ≡ true) (sized : Sized s) where
   unfolding wellSized pages
   words-length = eqb-true _ _ (and-right (inRange (processors s) (maxLevel s) (pages s)) _ (well-sized s w))
 
+module _ (s : State) (w : wellFormed s ≡ true) (sized : Sized s) where
+  g : Place → ℕ
+  g = only (setupAt s) (valueAt s)
+
   zero-level : isLevel (s .machine .shape) 0 ≡ true
-  zero-level = level-true (s .machine .shape) 0 (small .levels) (omega arith)
+  zero-level = level-true (s .machine .shape) 0 (small s w .levels) (omega arith)
 
   -- Level 0 is enabled, and the partition has no MBEC for it.
   zero-on : (v : Processor) → known (setupAt s) v ≡ true → enabledOn s (v .0) 0 ≡ true
@@ -104,7 +106,7 @@ module _ (s : State) (w : wellFormed s ≡ true) (sized : Sized s) where
   zero-for : enabledFor s 0 ≡ true
   unfolding wellFormedVp wellFormedContext isProcessor processors enabledAt enabledOn enabledFor partition
   zero-for =
-      implied _ _ (hold _ (every-at 4 _ (hold _ (well-vp s w 0 some-processor) .1 .1 .1 .0) 0 (omega arith)) .0) (zero-on (processor 0) some-processor)
+      implied _ _ (hold _ (every-at 4 _ (hold _ (well-vp s w 0 (some-processor s w)) .1 .1 .1 .0) 0 (omega arith)) .0) (zero-on (processor 0) (some-processor s w))
 
   zero-mbec : mbecFor s 0 ≡ false
   unfolding wellFormedParts
@@ -270,5 +272,5 @@ module _ (s : State) (w : wellFormed s ≡ true) (sized : Sized s) where
       };
       vps = mapAt-is (λ v p. cond (isProcessor s v) (hideVp 4 (λ l. false) (s .machine .shape) p) noVp) (s .machine .vps) 4 pastVp (λ v. vpFrom (setupAt s) g (processor v)) (sized .vps) vps-is i;
     };
-    words = mapAt-is (λ p x. cond false 0 x) (s .words) (s .machine .pages) 0 (λ p. g (Word (page p))) words-length word-is i;
+    words = mapAt-is (λ p x. cond false 0 x) (s .words) (s .machine .pages) 0 (λ p. g (Word (page p))) (words-length s w) word-is i;
   }

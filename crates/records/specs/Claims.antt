@@ -1,15 +1,16 @@
--- What is proved of records (02, request 2), each once for all states and texts (proofs/Bytes.antt). Assumes nothing.
+-- What is proved of records (02, request 2), each once for all states and texts (proofs/Bytes.antt, proofs/Lengths.antt). Assumes nothing.
 use mathlib.Core.Bool.{true}
 use mathlib.Core.List.{List, _++_}
 use mathlib.Core.Logic.{_↔_}
 use mathlib.Core.Option.{some}
 use mathlib.Core.Path.{_≡_}
-use Prim.Native.Nat.{ℕ}
+use Prim.Native.Nat.{ℕ, _<_}
+use lib.ListN.{length}
 use Rattle.model.specs.State.{State}
 use Rattle.model.specs.WellFormed.{wellFormed}
 use Rattle.script.specs.Records.{lines}
 use Rattle.records.specs.Reading.{Passed, passedOn}
-use Rattle.records.specs.Texts.{recordLines, recordsText}
+use Rattle.records.specs.Texts.{longestText, recordLines, recordsText}
 use Rattle.records.specs.Values.{plain, Sized}
 
 -- Reading what was written gives the same state, and leaves the script that follows.
@@ -29,3 +30,7 @@ OnlyRecords = (text : List ℕ) (r : Passed) → passedOn (lines text) ≡ some 
 abbrev pub SameBytes : Type 0
 SameBytes = (s t : State) → wellFormed s ≡ true → wellFormed t ≡ true → Sized s → Sized t
     → (recordsText s ≡ recordsText t) ↔ (plain s ≡ plain t)
+
+-- The text of a well-formed state has room in a buffer of 64 KB.
+abbrev pub ShortText : Type 0
+ShortText = (s : State) → wellFormed s ≡ true → length (recordsText s) < longestText

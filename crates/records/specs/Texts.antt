@@ -1,6 +1,6 @@
 -- The text of a record and of a state (02, request 2): word, indices and number, parted by tabs, each record with its line feed.
 -- Assumes nothing.
-use mathlib.Core.List.{List, [], _∷_, _++_, map}
+use mathlib.Core.List.{List, [], _∷_, _++_}
 use Prim.Native.Nat.{ℕ}
 use Rattle.decimal.specs.Write.{decimal}
 use Rattle.model.specs.declared.machine.Setup.{Setup}
@@ -8,8 +8,8 @@ use Rattle.model.specs.declared.machine.FirstLine.{FirstLine}
 use Rattle.model.specs.State.{State}
 use Rattle.script.specs.Bytes.{bytes}
 use Rattle.script.specs.LineForms.{tab}
-use Rattle.script.specs.ListingLine.{lineFeed}
-use Rattle.script.specs.Texts.{parted, firstLineOf}
+use Rattle.script.specs.ListingLine.{cell, lineFeed}
+use Rattle.script.specs.Texts.{firstLineOf}
 use Rattle.records.specs.Places.{Place, PartitionEnabled, Mbec, Config, Active, Shared, Register, Tpr, Pending, Enabled, Secure, Reason, From, Rax, Rcx, Word, Mask, places}
 use Rattle.records.specs.Values.{setupAt, number, valueAt}
 
@@ -39,9 +39,14 @@ headOf (Rcx v l) = headed (bytes "rcx") (v .0 ∷ l .0 ∷ [])
 headOf (Word p) = headed (bytes "word") (p .0 ∷ [])
 headOf (Mask p t) = headed (bytes "mask") (p .0 ∷ t .0 ∷ [])
 
+-- Numbers, each with a tab after it.
+unfoldable pub closed : List ℕ → List ℕ
+closed [] = []
+closed (n ∷ more) = cell n tab ++ closed more
+
 -- Word and indices, each with its tab; a record without its line feed.
 unfoldable pub front : Place → List ℕ
-front p = headOf p .word ++ parted (map decimal (headOf p .indices)) ++ tab ∷ []
+front p = headOf p .word ++ tab ∷ closed (headOf p .indices)
 
 unfoldable pub recordLine : Place → ℕ → List ℕ
 recordLine p x = front p ++ decimal x
@@ -72,3 +77,7 @@ ended (line ∷ more) = line ++ lineFeed ∷ ended more
 
 unfoldable pub recordsText : State → List ℕ
 recordsText s = ended (recordLines s)
+
+-- The text of a well-formed state is shorter than this.
+abbrev pub longestText : ℕ
+longestText = 65536
