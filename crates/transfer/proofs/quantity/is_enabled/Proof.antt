@@ -1,0 +1,14 @@
+-- `quantity::is_enabled` meets its contract. Assumes nothing.
+use Prim.Native.Nat.{ℕ}
+use mathlib.Core.Path.{ap, _∙_}
+use borrow.Author.Needs.{needs}
+use Rattle.records.specs.Values.{number}
+use Rattle.word.specs.Field.{bit}
+use Rattle.transfer.proofs.quantity.is_enabled.Statement.{statement}
+use Rattle.transfer.proofs.quantity.is_enabled.Tie as tie
+
+returns : tie.Need-returns
+returns c = rw (← c .before .before .record-word .ensures) (c .number .ensures ∙ ap number (c .before .in-set .ensures))
+
+pub is-enabled-spec : {M : Type 1} → statement M
+is-enabled-spec = tie.close (tie.spec (λ c κs. search needs) (λ c κs. search needs) (λ c κs. search needs) returns)
