@@ -18,6 +18,7 @@ use Rattle.model.specs.Arrays.{numberAt}
 use Rattle.model.specs.Registers.{privateOf, sharedOf}
 use Rattle.model.specs.State.{State, processors, pages, partition, shape, inSet, isLevel, isProcessor, vp, context, activeOf, active, enabledAt, enabledOn, enabledFor, mbecFor, configOf, configIn, maskOf, maskIn, wordOf, secureOf, noVp, pastVp, pastContext}
 use Rattle.model.proofs.Bools.{and-left, and-right}
+use Rattle.model.proofs.Four.{four-at}
 use Rattle.partition.specs.PartitionView.{enabledIn, mbecIn, configsIn, partitionOf}
 use Rattle.processor.proofs.RecordWords.{row-word}
 use Rattle.processor.specs.Record.{part, rowOf, contextOf, contextIn, vpOf}
@@ -29,14 +30,6 @@ use Rattle.records.specs.Values.{number, valueAt}
 use Rattle.records.proofs.Limits.{limits}
 use Rattle.records.proofs.Sequence.{first-two, third}
 use Rattle.records.proofs.Tables.{number-get}
-
--- An entry of a list of four.
-four-at : {A : Type 0} (f : ℕ → A) (i : ℕ) (d : A) → i < 4 → getD (f 0 ∷ f 1 ∷ f 2 ∷ f 3 ∷ []) i d ≡ f i
-four-at f zero d h = refl
-four-at f (suc zero) d h = refl
-four-at f (suc (suc zero)) d h = refl
-four-at f (suc (suc (suc zero))) d h = refl
-four-at f (suc (suc (suc (suc i)))) d h = absurd (omega arith)
 
 part-at : (from n : ℕ) (ws : List ℕ) (i : ℕ) → i < n → numberAt n (part from n ws) i ≡ getD ws (from + i) 0
 part-at from n ws i h = number-get n (part from n ws) i h ∙ getD-take n (drop from ws) i 0 h ∙ getD-drop from ws i 0
@@ -52,12 +45,12 @@ module _ (c : Setup) (levels masks : List ℕ) (rows : List (List ℕ)) (words :
   unfolding vp isProcessor processors machineOf
   vp-kept v h =
       ap (λ (b : Bool). cond b (getD (S .machine .vps) (v .0) pastVp) noVp) h
-      ∙ four-at (λ i. vpOf (getD rows i [])) (v .0) pastVp (ltb-true (v .0) 4 (and-right (ltb (v .0) (c .processors)) (ltb (v .0) 4) h))
+      ∙ four-at (λ i. vpOf (getD rows i [])) pastVp (v .0) (ltb-true (v .0) 4 (and-right (ltb (v .0) (c .processors)) (ltb (v .0) 4) h))
 
   context-kept : (v : Processor) (l : Level) → known c v ≡ true → isLevel (c .shape) (l .0) ≡ true → l .0 < 4
       → context (shape S) (vp S (v .0)) (l .0) ≡ contextIn (row v) (l .0)
   unfolding context shape machineOf vpOf
-  context-kept v l h k b = rw (vp-kept v h, k) (four-at (contextIn (row v)) (l .0) pastContext b)
+  context-kept v l h k b = rw (vp-kept v h, k) (four-at (contextIn (row v)) pastContext (l .0) b)
 
   upper-kept : (v : Processor) (l : Level) → (known c v && upper (c .shape) l) ≡ true → l .0 < 4
       → context (shape S) (vp S (v .0)) (l .0) ≡ contextIn (row v) (l .0)
