@@ -4,7 +4,7 @@ use mathlib.Core.Path.{_≡_, refl, sym, ap, _∙_, fun-ext}
 use mathlib.Core.Bool.{Bool, true, false, not, cond, _&&_, _||_}
 use mathlib.Core.List.{List, [], _∷_, _++_, map, append-nil}
 use mathlib.Core.Option.{Option, none, some}
-use Prim.Native.Nat.{ℕ, zero, suc, _+_, _*_, _≤_, _<_, _^_}
+use Prim.Native.Nat.{ℕ, zero, suc, _+_, _*_, _/_, _%_, _≤_, _<_, _^_}
 use native.Mathlib.Omega.{arith}
 use lib.Dec.{ltb, leb, eqb}
 use lib.ListN.{length}
@@ -13,11 +13,12 @@ use Rattle.model.specs.declared.machine.FirstLine.{FirstLine}
 use Rattle.model.specs.Fresh.{admissible}
 use Rattle.model.specs.Hide.{hide, hideMachine}
 use Rattle.model.specs.Masks.{validMask}
-use Rattle.model.specs.State.{State, inRange, processors, pages, shape, top, maxLevel, enabledFor, mbecFor, enabledOn}
+use Rattle.model.specs.State.{State, level, pastVp, pastContext, inRange, processors, pages, shape, top, maxLevel, enabledFor, mbecFor, enabledOn}
 use Rattle.model.specs.WellFormed.{wellSized, wellFormedParts, wellFormed}
 use Rattle.model.proofs.Bools.{and-left, and-right, and-both, hold}
 use Rattle.model.proofs.Formed.{well-sized, well-parts, well-moded}
 use Rattle.model.proofs.Steps.{formed-hide}
+use Rattle.script.specs.EventForms.{processor, page}
 use Rattle.script.proofs.OneLine.{one-full-first-line}
 use Rattle.script.proofs.LineRoundTrip.{first-said}
 use Rattle.script.specs.Texts.{Numbers, firstText, firstLineOf}
@@ -29,10 +30,11 @@ use Rattle.records.specs.Claims.{Exact}
 use Rattle.records.specs.Places.{Place, PartitionEnabled, Mbec, Config, Active, Shared, Register, Tpr, Pending, Enabled, Secure, Reason, From, Rax, Rcx, Word, Mask, places, has, endRank, rank}
 use Rattle.records.specs.Reading.{isFlag, Taken, taking, among, only, stateOfValues, Passed, formedOnly, fromTaken, fromFirst, firstRecord, passedOn}
 use Rattle.records.specs.Texts.{firstOf, linesAt, recordLines}
-use Rattle.records.specs.Values.{setupAt, number, valueAt, stateFrom, plain, Sized}
+use Rattle.records.specs.Values.{setupAt, number, valueAt, contextFrom, vpFrom, stateFrom, plain, Lengths, Sized}
 use Rattle.records.proofs.Lines.{Fit, Fits, Only, no-some, some-same, taking-back, taking-only, zipped, zipped-map}
 use Rattle.records.proofs.Made.{made, flag-back}
 use Rattle.records.proofs.Sequence.{Small, Run, In, here, there, member, places-run, run-has, run-above, among-in, among-all, map-same}
+use Rattle.records.proofs.Tables.{getD-table, length-table}
 use Rattle.records.proofs.Whole.{only-has, only-not, flag, small, plain-is}
 
 -- The clauses of an admissible first line.
@@ -133,7 +135,7 @@ module _ (s : State) (w : wellFormed s ≡ true) (sized : Sized s) where
   values-make =
       ap (stateFrom (setupAt s)) (only-same (setupAt s) (among (places (setupAt s)) (map (valueAt s) (places (setupAt s)))) (valueAt s)
       (λ p h. among-in (setupAt s) (valueAt s) (member (setupAt s) p h) 0 (endRank (setupAt s)) run))
-      ∙ sym (plain-is s w sized)
+      ∙ sym (plain-is s w (sized .lengths))
 
   plain-formed : wellFormed (plain s) ≡ true
   unfolding plain
@@ -174,7 +176,7 @@ module _ (s : State) (w : wellFormed s ≡ true) (sized : Sized s) where
   -- The quantities of all that is part of a state are the state's.
   pub plain-value : (p : Place) → has (setupAt s) p ≡ true → valueAt (plain s) p ≡ valueAt s p
   plain-value p h =
-      ap (λ (x : State). valueAt x p) (plain-is s w sized)
+      ap (λ (x : State). valueAt x p) (plain-is s w (sized .lengths))
       ∙ made (setupAt s) (only (setupAt s) (valueAt s)) p h (λ q. rw (only-has (setupAt s) (valueAt s) p h) (yes-no s p q))
       ∙ only-has (setupAt s) (valueAt s) p h
 
@@ -188,17 +190,48 @@ module _ (c : Setup) where
   fit-in (there {p} {q} {ps} m) (x ∷ xs) lo hi e (a, h, r) (f, fs) =
       rw (ne-eqb (rank p) (rank q) (λ k. omega (arith, run-above c m (suc (rank q)) hi r))) (fit-in m xs (suc (rank q)) hi (omega arith) r fs)
 
-  values-back : Small c → (xs : List ℕ) → length xs ≡ length (places c) → Fits (places c) xs → map (valueAt (stateOfValues c xs)) (places c) ≡ xs
+  -- The state of the values has them at its places.
+  values-at : Small c → (xs : List ℕ) → length xs ≡ length (places c) → Fits (places c) xs → (p : Place) → has c p ≡ true
+      → valueAt (stateOfValues c xs) p ≡ among (places c) xs p
   unfolding stateOfValues
+  values-at few xs e f p h =
+      let g = among (places c) xs in
+      let o = only-has c g p h in
+      made c (only c g) p h (λ q. rw o (fit-in (member c p h) xs 0 (endRank c) e (places-run c few) f .flag q)) ∙ o
+
+  values-back : Small c → (xs : List ℕ) → length xs ≡ length (places c) → Fits (places c) xs → map (valueAt (stateOfValues c xs)) (places c) ≡ xs
   values-back few xs e f =
       let r = places-run c few in
-      let g = among (places c) xs in
-      map-same c (valueAt (stateFrom c (only c g))) g (places c)
-      (λ p m.
-      let h = run-has c m 0 (endRank c) r in
-      let o = only-has c g p h in
-      made c (only c g) p h (λ q. rw o (fit-in m xs 0 (endRank c) e r f .flag q)) ∙ o)
+      map-same c (valueAt (stateOfValues c xs)) (among (places c) xs) (places c)
+      (λ p m. values-at few xs e f p (run-has c m 0 (endRank c) r))
       ∙ among-all c (places c) xs 0 (endRank c) e r
+
+  -- It has nothing else in it.
+  values-lengths : (xs : List ℕ) → Lengths (stateOfValues c xs)
+  unfolding stateOfValues stateFrom
+  values-lengths xs =
+      let g = only c (among (places c) xs) in
+      record {
+        configs = length-table 4 (λ l. g (Config (level l)));
+        masks = length-table 256 (λ i. g (Mask (page (i / 4)) (level (i % 4))));
+        vps = length-table 4 (λ v. vpFrom c g (processor v));
+        each = λ v h. rw (getD-table 4 (λ v. vpFrom c g (processor v)) v pastVp h) (record {
+          shared = length-table 20 (λ i. g (Shared (processor v) (12 + i)));
+          contexts = length-table 4 (λ l. contextFrom g (processor v) (level l));
+          each = λ l k. rw (getD-table 4 (λ l. contextFrom g (processor v) (level l)) l pastContext k) (record {
+            registers = length-table 13 (λ r. g (Register (processor v) (level l) r));
+            pending = length-table 4 (λ i. g (Pending (processor v) (level l) i));
+            secure = length-table 4 (λ j. g (Secure (processor v) (level l) (level j)));
+          });
+        });
+      }
+
+  values-whole : Small c → (xs : List ℕ) → length xs ≡ length (places c) → Fits (places c) xs → wellFormed (stateOfValues c xs) ≡ true
+      → plain (stateOfValues c xs) ≡ stateOfValues c xs
+  unfolding stateOfValues stateFrom
+  values-whole few xs e f w =
+      plain-is (stateOfValues c xs) w (values-lengths xs)
+      ∙ ap (stateFrom c) (only-same c (valueAt (stateOfValues c xs)) (among (places c) xs) (λ p h. values-at few xs e f p h))
 
 -- Only the records of a well-formed state are taken: they are those of the state that they give.
 module _ (line : List ℕ) (lines : List (List ℕ)) (f : FirstLine) (says : firstRecord line ≡ start.First f) (good : admissible f ≡ true) where
@@ -215,6 +248,7 @@ module _ (line : List ℕ) (lines : List (List ℕ)) (f : FirstLine) (says : fir
         these = rw (first-back f good, zipped-map (valueAt S) (places (setupOf f)), vals, ← one-full-first-line line f says)
             (ap (λ (l : List (List ℕ)). line ∷ l) (o .these));
         formed = w;
+        whole = values-whole (setupOf f) (small-first f good) (t .values) (o .count) (o .fits) w;
       })
 
   exact-first : (r : Passed) (t : Option Taken) → taking (places (setupOf f)) lines ≡ t → fromTaken (setupOf f) t ≡ some r → Exact (line ∷ lines) r

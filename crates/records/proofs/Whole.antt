@@ -29,7 +29,7 @@ use Rattle.script.specs.EventForms.{processor, page}
 use Rattle.model.specs.declared.machine.Setup.{Setup}
 use Rattle.records.specs.Places.{Place, PartitionEnabled, Mbec, Config, Active, Shared, Register, Tpr, Pending, Enabled, Secure, Reason, From, Rax, Rcx, Word, Mask, known, upper, has}
 use Rattle.records.specs.Reading.{only}
-use Rattle.records.specs.Values.{setupAt, number, valueAt, table, setFrom, contextFrom, vpFrom, partitionFrom, stateFrom, plain, SizedContext, SizedVp, Sized}
+use Rattle.records.specs.Values.{setupAt, number, valueAt, table, setFrom, contextFrom, vpFrom, partitionFrom, stateFrom, plain, SizedContext, SizedVp, Lengths}
 use Rattle.records.proofs.Sequence.{Small, level-true}
 use Rattle.records.proofs.Tables.{mapAt-is, list-is, number-get, number-table, getD-table}
 
@@ -91,7 +91,7 @@ module _ (s : State) (w : wellFormed s ≡ true) where
   unfolding wellSized pages
   words-length = eqb-true _ _ (and-right (inRange (processors s) (maxLevel s) (pages s)) _ (well-sized s w))
 
-module _ (s : State) (w : wellFormed s ≡ true) (sized : Sized s) where
+module _ (s : State) (w : wellFormed s ≡ true) (sized : Lengths s) where
   g : Place → ℕ
   g = only (setupAt s) (valueAt s)
 

@@ -18,10 +18,12 @@ abbrev pub ReadBack : Type 0
 ReadBack = (s : State) → wellFormed s ≡ true → Sized s → (script : List ℕ)
     → passedOn (lines (recordsText s ++ script)) ≡ some (record { state = plain s; rest = lines script })
 
--- What is accepted is the records of the state that it gives, which is well formed, and what follows them.
+-- What is accepted is the records of the state that it gives, and what follows them. The state is well formed, and has nothing in it
+-- that is no part of a state.
 pub record Exact (lines : List (List ℕ)) (r : Passed) : Type 0 where
   pub these : lines ≡ recordLines (r .state) ++ r .rest
   pub formed : wellFormed (r .state) ≡ true
+  pub whole : plain (r .state) ≡ r .state
 
 abbrev pub OnlyRecords : Type 0
 OnlyRecords = (text : List ℕ) (r : Passed) → passedOn (lines text) ≡ some r → Exact (lines text) r

@@ -118,9 +118,12 @@ pub record SizedVp (p : VirtualProcessor) : Type 0 where
   pub contexts : length (p .contexts) ≡ 4
   pub each : (l : ℕ) → l < 4 → SizedContext (getD (p .contexts) l pastContext)
 
-pub record Sized (s : State) : Type 0 where
+pub record Lengths (s : State) : Type 0 where
   pub configs : length (s .machine .partition .configs) ≡ 4
   pub masks : length (s .machine .partition .masks) ≡ 256
   pub vps : length (s .machine .vps) ≡ 4
   pub each : (v : ℕ) → v < 4 → SizedVp (getD (s .machine .vps) v pastVp)
+
+pub record Sized (s : State) : Type 0 where
+  pub lengths : Lengths s
   pub fits : (p : Place) → valueAt s p < 2 ^ 64

@@ -231,10 +231,12 @@ module _ (setup : Setup) (levels masks words : List ℕ) (rows : List (List ℕ)
     pub lent-sized : Sized S
     unfolding machineOf partitionOf
     lent-sized = record {
-      configs = refl;
-      masks = parts .size;
-      vps = refl;
-      each = λ v h. rw (four-at (λ i. vpOf (getD rows i [])) pastVp v h) (vp-sized (getD rows v []) (parts .records .each v h));
+      lengths = record {
+        configs = refl;
+        masks = parts .size;
+        vps = refl;
+        each = λ v h. rw (four-at (λ i. vpOf (getD rows i [])) pastVp v h) (vp-sized (getD rows v []) (parts .records .each v h));
+      };
       fits = value-fits;
     }
 
