@@ -1,10 +1,8 @@
 -- The theorems of Passing.antt on bytes: no record has a line feed in it, so the lines of a state's text are its records. Assumes nothing.
 use mathlib.Core.Path.{_≡_, refl, sym, ap, _∙_}
-use mathlib.Core.Bool.{Bool, true, false, not, cond, _&&_}
+use mathlib.Core.Bool.{Bool, true, not, _&&_}
 use mathlib.Core.List.{List, [], _∷_, _++_, map, append-nil, append-assoc}
-use mathlib.Core.Logic.{_↔_}
-use mathlib.Core.Option.{Option, some}
-use Prim.Native.Nat.{ℕ, zero, suc}
+use Prim.Native.Nat.{ℕ}
 use native.Mathlib.Omega.{arith}
 use lib.Dec.{eqb}
 use borrow.Author.Tests.{ne-eqb, not-true}
@@ -13,16 +11,15 @@ use Rattle.decimal.specs.Write.{OnlyDigits, decimal}
 use Rattle.model.proofs.Bools.{and-left, and-right}
 use Rattle.model.specs.declared.machine.FirstLine.{FirstLine}
 use Rattle.model.specs.State.{State}
-use Rattle.model.specs.WellFormed.{wellFormed}
 use Rattle.script.specs.LineForms.{tab}
 use Rattle.script.specs.ListingLine.{cell, lineFeed}
-use Rattle.script.specs.Records.{Lines, inFront, lastLine, lines, linesIn}
+use Rattle.script.specs.Records.{lines, linesIn}
 use Rattle.script.specs.Texts.{parted, firstText, firstLineOf, written}
 use Rattle.records.specs.Places.{Place, PartitionEnabled, Mbec, Config, Active, Shared, Register, Tpr, Pending, Enabled, Secure, Reason, From, Rax, Rcx, Word, Mask, places}
 use Rattle.records.specs.Claims.{OnlyRecords, ReadBack, SameBytes}
 use Rattle.records.specs.Reading.{passedOn}
 use Rattle.records.specs.Texts.{headOf, closed, front, recordLine, firstOf, linesAt, recordLines, ended, recordsText}
-use Rattle.records.specs.Values.{setupAt, valueAt, plain, Sized}
+use Rattle.records.specs.Values.{setupAt, valueAt}
 use Rattle.records.proofs.Passing.{passed-back, passed-only, same-lines, equal-lines}
 
 abbrev noFeed : List ℕ → Bool

@@ -1,8 +1,8 @@
 -- The length of a state's text: how many places a machine has, and how long a record is at most. Assumes nothing.
-use mathlib.Core.Path.{_≡_, refl, sym, ap, _∙_}
+use mathlib.Core.Path.{_≡_, refl}
 use mathlib.Core.Bool.{Bool, true, false, cond}
 use mathlib.Core.List.{List, [], _∷_, _++_, map}
-use Prim.Native.Nat.{ℕ, zero, suc, _+_, _*_, _≤_, _<_, _^_}
+use Prim.Native.Nat.{ℕ, zero, suc, _+_, _*_, _≤_, _<_}
 use native.Mathlib.Omega.{arith}
 use lib.Dec.{eqb}
 use lib.ListN.{length, length-append}
@@ -11,10 +11,8 @@ use Rattle.decimal.specs.Write.{decimal}
 use Rattle.model.specs.declared.machine.FirstLine.{FirstLine}
 use Rattle.model.specs.declared.machine.Setup.{Setup}
 use Rattle.model.specs.declared.quantity.Level.{Level}
-use Rattle.model.specs.declared.quantity.Page.{Page}
 use Rattle.model.specs.declared.quantity.Processor.{Processor}
-use Rattle.model.specs.State.{State, level, top}
-use Rattle.model.specs.WellFormed.{wellFormed}
+use Rattle.model.specs.State.{level, top}
 use Rattle.script.proofs.Cells.{cell-length}
 use Rattle.script.specs.EventForms.{processor, page}
 use Rattle.script.specs.LineForms.{tab}

@@ -1,10 +1,10 @@
 -- The bounds of the indices of a place that a state has. Assumes nothing.
 use mathlib.Core.Path.{_≡_, sym, _∙_}
 use mathlib.Core.Bool.{Bool, true, not, _&&_}
-use Prim.Native.Nat.{ℕ, _≤_, _<_}
+use Prim.Native.Nat.{_≤_, _<_}
 use native.Mathlib.Omega.{arith}
 use lib.Dec.{ltb, leb}
-use borrow.Author.Tests.{ltb-true, ltb-false, leb-true, not-true}
+use borrow.Author.Tests.{ltb-true, ltb-false, not-true}
 use Rattle.model.specs.Registers.{isPrivate}
 use Rattle.model.specs.State.{top, isLevel}
 use Rattle.model.specs.declared.quantity.Level.{Level}

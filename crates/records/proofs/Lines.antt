@@ -1,13 +1,13 @@
 -- One record's line says its number, and no other line does; the lines of some places likewise. Assumes nothing.
-use mathlib.Core.Path.{_≡_, refl, sym, ap, _∙_}
-use mathlib.Core.Bool.{Bool, true, false, not, cond, _&&_, _||_}
+use mathlib.Core.Path.{_≡_, refl, ap, _∙_}
+use mathlib.Core.Bool.{Bool, true, false, not, cond, _||_}
 use mathlib.Core.List.{List, [], _∷_, _++_, map}
 use mathlib.Core.Option.{Option, none, some}
-use Prim.Native.Nat.{ℕ, zero, suc, _≤_, _<_, _^_}
+use Prim.Native.Nat.{ℕ, suc, _≤_, _<_, _^_}
 use native.Mathlib.Omega.{arith}
-use lib.Dec.{ltb, leb, eqb}
+use lib.Dec.{leb, eqb}
 use lib.ListN.{length}
-use borrow.Author.Tests.{le-leb, leb-true, eq-eqb, eqb-true, ne-eqb}
+use borrow.Author.Tests.{le-leb, leb-true, eq-eqb, eqb-true}
 use Rattle.decimal.proofs.OneText.{one-text}
 use Rattle.decimal.proofs.DigitReading.{no-number}
 use Rattle.decimal.proofs.DecimalRoundTrip.{round-trip}
@@ -15,7 +15,6 @@ use Rattle.decimal.specs.Read.{readDecimal}
 use Rattle.decimal.specs.Write.{decimal}
 use Rattle.decimal.specs.declared.Number.{Number}
 use Rattle.decimal.specs.declared.Number.the-variants.{Value, Malformed}
-use Rattle.model.specs.WellFormed.{_implies_}
 use Rattle.records.specs.Places.{Place}
 use Rattle.records.specs.Reading.{isFlag, numberAfter, taken, lineValue, Taken, followed, taking}
 use Rattle.records.specs.Texts.{front, recordLine, linesAt}

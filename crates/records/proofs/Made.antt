@@ -1,14 +1,12 @@
 -- The state that is made of quantities has them at its places. Assumes nothing.
 use mathlib.Core.Path.{_≡_, refl, sym, ap, _∙_}
-use mathlib.Core.Bool.{Bool, true, false, not, cond, _&&_, _||_}
-use mathlib.Core.List.{List, [], _∷_}
-use Prim.Native.Nat.{ℕ, zero, suc, _+_, _-_, _*_, _/_, _%_, _≤_, _<_}
+use mathlib.Core.Bool.{Bool, true, false, not, cond, _&&_}
+use Prim.Native.Nat.{ℕ, _+_, _-_, _*_, _/_, _%_, _≤_, _<_}
 use native.Mathlib.Omega.{arith}
 use lib.Dec.{ltb, leb, eqb}
-use lib.ListN.{length, getD}
-use borrow.Author.Tests.{lt-ltb, le-ltb, ltb-true, ltb-false, leb-true, eq-eqb, eqb-true, eqb-false, ne-eqb, not-true}
+use lib.ListN.{getD}
+use borrow.Author.Tests.{ltb-true, ltb-false, eqb-true, eqb-false, ne-eqb, not-true}
 use Rattle.model.specs.declared.machine.Context.{Context}
-use Rattle.model.specs.declared.machine.Shape.{Shape}
 use Rattle.model.specs.declared.machine.VirtualProcessor.{VirtualProcessor}
 use Rattle.model.specs.Arrays.{numberAt}
 use Rattle.model.specs.Registers.{isPrivate, privateOf, sharedOf}
@@ -22,7 +20,7 @@ use Rattle.script.specs.EventForms.{processor, page}
 use Rattle.model.specs.declared.machine.Setup.{Setup}
 use Rattle.records.specs.Places.{Place, PartitionEnabled, Mbec, Config, Active, Shared, Register, Tpr, Pending, Enabled, Secure, Reason, From, Rax, Rcx, Word, Mask, known, upper, has, privateCount}
 use Rattle.records.specs.Reading.{isFlag}
-use Rattle.records.specs.Values.{number, valueAt, table, setFrom, contextFrom, vpFrom, stateFrom}
+use Rattle.records.specs.Values.{number, valueAt, setFrom, contextFrom, vpFrom, stateFrom}
 use Rattle.records.proofs.Sequence.{private-count, count-bounds, third, first-two}
 use Rattle.records.proofs.Tables.{number-table, getD-table}
 

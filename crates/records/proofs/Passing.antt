@@ -1,14 +1,14 @@
 -- Passing a machine on (request 2): reading what was written gives the same state and leaves the rest; only the text of a
 -- well-formed state is taken; and two well-formed states have the same lines exactly when they are equal. Assumes nothing.
 use mathlib.Core.Path.{_≡_, refl, sym, ap, _∙_, fun-ext}
-use mathlib.Core.Bool.{Bool, true, false, not, cond, _&&_, _||_}
-use mathlib.Core.List.{List, [], _∷_, _++_, map, append-nil}
+use mathlib.Core.Bool.{Bool, true, false, cond, _&&_}
+use mathlib.Core.List.{List, [], _∷_, _++_, map}
 use mathlib.Core.Option.{Option, none, some}
-use Prim.Native.Nat.{ℕ, zero, suc, _+_, _*_, _/_, _%_, _≤_, _<_, _^_}
+use Prim.Native.Nat.{ℕ, suc, _+_, _/_, _%_, _≤_}
 use native.Mathlib.Omega.{arith}
-use lib.Dec.{ltb, leb, eqb}
+use lib.Dec.{leb}
 use lib.ListN.{length}
-use borrow.Author.Tests.{le-leb, leb-true, eq-eqb, eqb-true, ne-eqb}
+use borrow.Author.Tests.{le-leb, leb-true, eq-eqb, ne-eqb}
 use Rattle.model.specs.declared.machine.FirstLine.{FirstLine}
 use Rattle.model.specs.Fresh.{admissible}
 use Rattle.model.specs.Hide.{hide, hideMachine}
@@ -28,10 +28,10 @@ use Rattle.state.specs.Lent.{setupOf}
 use Rattle.model.specs.declared.machine.Setup.{Setup}
 use Rattle.records.specs.Claims.{Exact}
 use Rattle.records.specs.Places.{Place, PartitionEnabled, Mbec, Config, Active, Shared, Register, Tpr, Pending, Enabled, Secure, Reason, From, Rax, Rcx, Word, Mask, places, has, endRank, rank}
-use Rattle.records.specs.Reading.{isFlag, Taken, taking, among, only, stateOfValues, Passed, formedOnly, fromTaken, fromFirst, firstRecord, passedOn}
+use Rattle.records.specs.Reading.{isFlag, Taken, taking, among, only, stateOfValues, Passed, fromTaken, fromFirst, firstRecord, passedOn}
 use Rattle.records.specs.Texts.{firstOf, linesAt, recordLines}
 use Rattle.records.specs.Values.{setupAt, number, valueAt, contextFrom, vpFrom, stateFrom, plain, Lengths, Sized}
-use Rattle.records.proofs.Lines.{Fit, Fits, Only, no-some, some-same, taking-back, taking-only, zipped, zipped-map}
+use Rattle.records.proofs.Lines.{Fit, Fits, no-some, some-same, taking-back, taking-only, zipped-map}
 use Rattle.records.proofs.Made.{made, flag-back}
 use Rattle.records.proofs.Sequence.{Small, Run, In, here, there, member, places-run, run-has, run-above, among-in, among-all, map-same}
 use Rattle.records.proofs.Tables.{getD-table, length-table}

@@ -1,15 +1,12 @@
 -- Laws of lists by their entries. Assumes nothing.
 use mathlib.Core.Path.{_≡_, refl, ap, _∙_}
-use mathlib.Core.Bool.{cond}
 use mathlib.Core.List.{List, [], _∷_}
 use Prim.Native.Nat.{ℕ, zero, suc, _<_}
 use native.Mathlib.Omega.{arith}
-use lib.Dec.{ltb}
 use lib.ListN.{length, getD}
 use borrow.Author.Tests.{lt-ltb}
 use Rattle.model.specs.Arrays.{numberAt}
 use Rattle.model.specs.MapAt.{mapAt}
-use Rattle.records.specs.Places.{Place}
 use Rattle.records.specs.Values.{table}
 
 module _ {A : Type 0} where

@@ -5,14 +5,14 @@ use mathlib.Core.List.{List, [], _∷_, _++_}
 use Prim.Native.Nat.{ℕ, zero, suc, _+_, _≤_, _<_}
 use native.Mathlib.Numerals.{add-one}
 use native.Mathlib.Omega.{arith}
-use lib.Dec.{ltb, leb, eqb}
-use borrow.Author.Tests.{lt-ltb, le-ltb, le-leb, lt-leb, eq-eqb, ne-eqb, eqb-true, eqb-false}
+use lib.Dec.{eqb}
+use borrow.Author.Tests.{lt-ltb, le-ltb, le-leb, lt-leb, eqb-false}
 use Rattle.model.specs.declared.quantity.Level.{Level}
 use Rattle.model.specs.declared.quantity.Processor.{Processor}
 use Rattle.model.specs.State.{level, top}
 use Rattle.script.specs.EventForms.{processor, page}
 use Rattle.model.specs.declared.machine.Setup.{Setup}
-use Rattle.records.specs.Places.{Place, PartitionEnabled, Mbec, Config, Active, Shared, Register, Tpr, Pending, Enabled, Secure, Reason, From, Rax, Rcx, Word, Mask, rising, privateCount, sharedCount, levelPlaces, processorPlaces, upperPlaces, contextPlaces, pagePlaces, ofLevels, ofProcessors, ofContexts, ofPages, places}
+use Rattle.records.specs.Places.{Place, Shared, Register, Tpr, Pending, Enabled, Secure, Reason, From, Rax, Rcx, Mask, rising, privateCount, sharedCount, levelPlaces, processorPlaces, upperPlaces, contextPlaces, pagePlaces, ofLevels, ofProcessors, ofContexts, ofPages, places}
 use Rattle.records.specs.Walk.{Next, At, Done, toPage, toMask, toContexts, toContext, toRegister, toPending, toSecure, toProcessor, toShared, toLevel, nextOf, firstDue}
 use Rattle.records.proofs.Sequence.{counts, count-bounds}
 

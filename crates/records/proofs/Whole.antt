@@ -1,24 +1,21 @@
 -- A state is what its quantities make: all that is part of a well-formed state follows from its first record and the quantities
 -- at its places. Assumes nothing.
 use mathlib.Core.Path.{_≡_, refl, sym, ap, _∙_}
-use mathlib.Core.Bool.{Bool, true, false, not, cond, _&&_, _||_, and-true, and-false}
-use mathlib.Core.List.{List, [], _∷_}
-use Prim.Native.Nat.{ℕ, zero, suc, _+_, _-_, _*_, _/_, _%_, _≤_, _<_}
+use mathlib.Core.Bool.{Bool, true, false, not, cond, _&&_, and-false}
+use Prim.Native.Nat.{ℕ, zero, suc, _+_, _-_, _*_, _/_, _%_, _<_}
 use native.Mathlib.Omega.{arith}
-use lib.Dec.{ltb, leb, eqb}
+use lib.Dec.{ltb, eqb}
 use lib.ListN.{length, getD}
-use borrow.Author.Tests.{lt-ltb, le-ltb, le-leb, lt-leb, ltb-true, ltb-false, leb-true, eq-eqb, eqb-true, eqb-false, ne-eqb, not-true}
-use Rattle.model.specs.Arrays.{numberAt}
+use borrow.Author.Tests.{lt-ltb, le-ltb, lt-leb, ltb-true, leb-true, eq-eqb, eqb-true, eqb-false, ne-eqb, not-true}
 use Rattle.model.specs.Bounded.{bits}
 use Rattle.model.specs.Hide.{hides, hideSet, hideContext, hideLevel, hideVp, hidePartition, isMask, hideMachine, hide}
 use Rattle.model.specs.MapAt.{mapAt}
 use Rattle.model.specs.Registers.{isPrivate, privateOf, sharedOf}
 use Rattle.model.specs.declared.machine.Context.{Context}
-use Rattle.model.specs.declared.machine.Control.{Control}
 use Rattle.model.specs.declared.machine.Shape.{Shape}
 use Rattle.model.specs.declared.quantity.Level.{Level}
 use Rattle.model.specs.declared.set.LevelSet.{LevelSet}
-use Rattle.model.specs.State.{State, level, levelSet, inRange, processors, pages, shape, top, maxLevel, partition, inSet, isLevel, isProcessor, isPage, vp, context, activeOf, active, enabledAt, enabledOn, enabledFor, mbecFor, configIn, configOf, maskIn, maskOf, wordOf, secureOf, noControl, noContext, noVp, pastVp, pastContext}
+use Rattle.model.specs.State.{State, level, levelSet, inRange, processors, pages, shape, maxLevel, partition, inSet, isLevel, isProcessor, isPage, vp, context, activeOf, active, enabledAt, enabledOn, enabledFor, mbecFor, configIn, configOf, maskIn, maskOf, wordOf, secureOf, noControl, noContext, noVp, pastVp, pastContext}
 use Rattle.model.specs.declared.quantity.Processor.{Processor}
 use Rattle.model.specs.WellFormed.{wellSized, wellFormedContext, wellFormedVp, wellFormedParts, wellFormed}
 use Rattle.model.proofs.Bools.{and-left, and-right, and-off, implied, hold, cond-then}
@@ -27,11 +24,11 @@ use Rattle.model.proofs.Formed.{well-sized, well-parts, well-vp}
 use Rattle.model.proofs.Sets.{bits-cong}
 use Rattle.script.specs.EventForms.{processor, page}
 use Rattle.model.specs.declared.machine.Setup.{Setup}
-use Rattle.records.specs.Places.{Place, PartitionEnabled, Mbec, Config, Active, Shared, Register, Tpr, Pending, Enabled, Secure, Reason, From, Rax, Rcx, Word, Mask, known, upper, has}
+use Rattle.records.specs.Places.{Place, PartitionEnabled, Mbec, Config, Active, Shared, Register, Tpr, Pending, Enabled, Secure, Reason, From, Rax, Rcx, Word, Mask, known, has}
 use Rattle.records.specs.Reading.{only}
-use Rattle.records.specs.Values.{setupAt, number, valueAt, table, setFrom, contextFrom, vpFrom, partitionFrom, stateFrom, plain, SizedContext, SizedVp, Lengths}
+use Rattle.records.specs.Values.{setupAt, number, valueAt, table, setFrom, contextFrom, vpFrom, stateFrom, plain, SizedContext, SizedVp, Lengths}
 use Rattle.records.proofs.Sequence.{Small, level-true}
-use Rattle.records.proofs.Tables.{mapAt-is, list-is, number-get, number-table, getD-table}
+use Rattle.records.proofs.Tables.{mapAt-is, list-is, number-get}
 
 -- A quantity at a place that the state has, and at another.
 pub only-has : (c : Setup) (g : Place → ℕ) (p : Place) → has c p ≡ true → only c g p ≡ g p

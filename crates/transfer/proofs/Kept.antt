@@ -1,10 +1,10 @@
 -- Where the words of a processor's record keep the quantity at each place. Assumes nothing.
 use mathlib.Core.Path.{_≡_, refl, sym, ap, _∙_}
 use mathlib.Core.Bool.{Bool, true, cond, _&&_}
-use mathlib.Core.List.{List, [], _∷_}
-use Prim.Native.Nat.{ℕ, zero, suc, _+_, _-_, _*_, _<_}
+use mathlib.Core.List.{List, []}
+use Prim.Native.Nat.{ℕ, _+_, _-_, _*_, _<_}
 use native.Mathlib.Omega.{arith}
-use lib.Dec.{ltb, leb}
+use lib.Dec.{ltb}
 use lib.ListN.{getD, take, drop}
 use lib.Seq.{getD-take, getD-drop}
 use borrow.Author.Tests.{ltb-true, lt-ltb}
@@ -28,7 +28,7 @@ use Rattle.records.specs.declared.place.Place.the-variants.{PartitionEnabled, M
 use Rattle.records.specs.Places.{known, upper, has}
 use Rattle.records.specs.Values.{number, valueAt}
 use Rattle.records.proofs.Limits.{limits}
-use Rattle.records.proofs.Sequence.{first-two, third}
+use Rattle.records.proofs.Sequence.{first-two}
 use Rattle.records.proofs.Tables.{number-get}
 
 part-at : (from n : ℕ) (ws : List ℕ) (i : ℕ) → i < n → numberAt n (part from n ws) i ≡ getD ws (from + i) 0

@@ -1,12 +1,12 @@
 -- The state of the parts that code lends is `Sized`: its arrays have their sizes, and each quantity is a word, as the parts are arrays of
 -- words. So the theorems of crate `records` hold of it. Assumes nothing.
-use mathlib.Core.Path.{_≡_, refl, sym, ap, _∙_}
+use mathlib.Core.Path.{_≡_, refl}
 use mathlib.Core.Bool.{Bool, true, false, cond, _&&_}
 use mathlib.Core.List.{List, [], _∷_, _++_}
 use mathlib.Core.Option.{some}
-use Prim.Native.Nat.{ℕ, zero, suc, _+_, _*_, _≤_, _<_, _^_}
+use Prim.Native.Nat.{ℕ, zero, suc, _+_, _*_, _<_, _^_}
 use native.Mathlib.Omega.{arith}
-use lib.Dec.{ltb, leb}
+use lib.Dec.{ltb}
 use lib.ListN.{getD, length, length-drop, replicate, take, drop}
 use lib.Seq.{length-take-le}
 use borrow.Author.Tests.{ltb-true}
@@ -16,7 +16,7 @@ use Rattle.model.specs.declared.machine.Shape.{Shape}
 use Rattle.model.specs.declared.machine.VirtualProcessor.{VirtualProcessor}
 use Rattle.model.specs.Arrays.{numberAt}
 use Rattle.model.specs.Registers.{privateOf, sharedOf}
-use Rattle.model.specs.State.{State, processors, pages, partition, shape, top, isLevel, isProcessor, vp, context, activeOf, active, enabledOn, enabledFor, mbecFor, configOf, configIn, maskOf, maskIn, wordOf, secureOf, noContext, noVp, pastVp, pastContext}
+use Rattle.model.specs.State.{State, processors, pages, partition, shape, isLevel, isProcessor, vp, context, activeOf, active, enabledOn, enabledFor, mbecFor, configOf, configIn, maskOf, maskIn, wordOf, secureOf, noContext, noVp, pastVp, pastContext}
 use Rattle.model.proofs.Bools.{and-right, cond-holds}
 use Rattle.model.proofs.Four.{four-at}
 use Rattle.partition.specs.PartitionView.{configsIn, partitionOf}

@@ -1,11 +1,11 @@
 -- Laws of texts that are written into a buffer one after the other. Assumes nothing.
-use mathlib.Core.Path.{_≡_, refl, sym, ap, _∙_}
+use mathlib.Core.Path.{_≡_, sym, ap, _∙_}
 use mathlib.Core.List.{List, [], _∷_, _++_, append-assoc, append-nil}
 use Prim.Native.Nat.{ℕ, zero, suc, _+_, _≤_, _<_}
 use native.Mathlib.Numerals.{add-one}
 use native.Mathlib.Omega.{arith}
 use lib.ListN.{length, length-append, getD, set, take}
-use lib.Seq.{length-sets, length-take-le, sets, take-suc}
+use lib.Seq.{length-take-le, sets, take-suc}
 use Rattle.decimal.proofs.Digits.{text-length}
 use Rattle.records.specs.Texts.{closed}
 use Rattle.script.proofs.Cells.{Written, cell-length, written-length}

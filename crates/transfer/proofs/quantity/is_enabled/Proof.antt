@@ -1,9 +1,7 @@
 -- `quantity::is_enabled` meets its contract. Assumes nothing.
-use Prim.Native.Nat.{ℕ}
 use mathlib.Core.Path.{ap, _∙_}
 use borrow.Author.Needs.{needs}
 use Rattle.records.specs.Values.{number}
-use Rattle.word.specs.Field.{bit}
 use Rattle.transfer.proofs.quantity.is_enabled.Statement.{statement}
 use Rattle.transfer.proofs.quantity.is_enabled.Tie as tie
 

@@ -1,6 +1,6 @@
 -- `record_text::write_first` meets its contract: five numbers with a tab after them, and the last. Assumes nothing.
 use mathlib.Core.List.{_∷_, _++_, List}
-use mathlib.Core.Path.{_≡_, ap, _∙_}
+use mathlib.Core.Path.{ap, _∙_}
 use Prim.Native.Nat.{ℕ, _+_, _≤_}
 use borrow.Author.Needs.{needs}
 use native.Mathlib.Omega.{arith}

@@ -1,6 +1,6 @@
 -- `write::write_places` meets its contract. The loop keeps what is left to write; the rank of the place that is due rises.
 -- Assumes nothing.
-use mathlib.Core.Path.{_≡_, ap, _∙_}
+use mathlib.Core.Path.{_≡_, ap}
 use Prim.Native.Nat.{_-_}
 use borrow.Author.Needs.{needs}
 use native.Mathlib.Omega.{arith}
