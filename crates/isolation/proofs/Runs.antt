@@ -35,7 +35,7 @@ module _ (K : ℕ) (k : 1 ≤ K) (E : ℕ → ℕ → Bool) (H : ℕ → Bool) (
   reached s m w = record {
     modes = w;
     grown = λ v l h. m .contexts v l .grows (sym (E-is v l) ∙ h);
-    pages = λ p. H-is p ∙ sym (closed-kept K o s m p);
+    pages = λ p h. H-is p ∙ sym (closed-kept K o s m p) ∙ h;
   }
 
   quietMaker-same : (s : State) (v : Option ℕ) → quietMaker K (hide K E H s) v ≡ quietMaker K s v

@@ -350,7 +350,7 @@ module _ (K : ℕ) (k : 1 ≤ K) (s : State) where
   effect-moved w (Made v mode (Ret len)) c ps = onVp-moved K s (v .0) (λ z p. returned z p len) (returned-turned K (shape s) (vp s (v .0)) len (low (v .0) c))
   effect-moved w (Made v mode (Read p)) c ps = same-moved K s
   effect-moved w (Made v mode (Write p x)) c ps =
-      setWord-moved K s (p .0) x (open-page K (enabledOn s) (closed K s) k s w (λ v l h. h) (λ p. refl) Access.Write writeBit (unfold needed in λ m mode. refl) read-of-write (v .0) (modeOf mode) (p .0) (low (v .0) c) (search) (search))
+      setWord-moved K s (p .0) x (open-page K (enabledOn s) (closed K s) k s w (λ v l h. h) (λ p h. h) Access.Write writeBit (unfold needed in λ m mode. refl) read-of-write (v .0) (modeOf mode) (p .0) (low (v .0) c) (search) (search))
   effect-moved w (Made v mode (Fetch p)) c ps = same-moved K s
   effect-moved w (Made v mode (Protect p m)) c ps = partition-moved K s (λ z x. setMask x (active s (v .0)) (p .0) m) (setMask-below K (partition s) (active s (v .0)) (p .0) m (low (v .0) c))
   effect-moved w (Made v mode (Config g x)) c ps = let a : activeOf (vp s (v .0)) < K = low (v .0) c in

@@ -196,20 +196,20 @@ module _ (K : ℕ) (E : ℕ → ℕ → Bool) (H : ℕ → Bool) where
   abbrev pub hideOutcome : Outcome → Outcome
   hideOutcome o = record { answer = o .answer; next = hide K E H (o .next) }
 
-  -- Done events, at a well-formed state. The levels enabled at the start still are, and H tells the pages that are closed now.
-  module _ (k : 1 ≤ K) (s : State) (w : wellFormed s ≡ true) (grown : (v l : ℕ) → E v l ≡ true → enabledOn s v l ≡ true) (pages-closed : (p : ℕ) → H p ≡ closed K s p) where
+  -- Done events, at a well-formed state. The levels enabled at the start still are, and H hides no page that is open now.
+  module _ (k : 1 ≤ K) (s : State) (w : wellFormed s ≡ true) (grown : (v l : ℕ) → E v l ≡ true → enabledOn s v l ≡ true) (pages-open : (p : ℕ) → closed K s p ≡ false → H p ≡ false) where
     -- A read or write that is done needs bit b of each mask, and a valid mask with bit b has Read: the page is open.
     pub open-page : (a : Access) (b : ℕ) → ((m : Bool) (mode : Mode) → needed m mode a ≡ b) → ((m : ℕ) → validMask m ≡ true → bit m b ≡ true → bit m readBit ≡ true) → (v : ℕ) (mode : Mode) (p : ℕ) → active s v < K →
         denied s v mode p a ≡ false → hostDenies s p a ≡ false → H p ≡ false
     unfolding closed denied denies deniesIn hostDenies hostDeniesBy maskOf protects
     open-page a b needs weak v mode p h d e =
-        pages-closed p ∙ rw (weak (hostMask s p) (host-valid s w p) (rw needs at (not-false (bit (hostMask s p) (needed false Mode.Kernel a)) e)))
+        pages-open p (rw (weak (hostMask s p) (host-valid s w p) (rw needs at (not-false (bit (hostMask s p) (needed false Mode.Kernel a)) e)))
         (any-none 4 (λ t. leb K t && protects s t && not (bit (maskOf s t p) readBit)) (λ t i. not-and (leb K t && protects s t) (not (bit (maskOf s t p) readBit)) (λ q.
         let above : K ≤ t = leb-true K t (and-left (leb K t) (protects s t) q) in
         let allows : (ltb (active s v) t && protects s t && not (bit (maskOf s t p) b)) ≡ false = rw needs at (any-at 4 (λ t. denies s v mode p a t) d t i) in
         let has : bit (maskOf s t p) b ≡ true =
         not-false (bit (maskOf s t p) b) (and-not (ltb (active s v) t && protects s t) (not (bit (maskOf s t p) b)) allows (rw (lt-ltb (active s v) t (omega arith)) (and-right (leb K t) (protects s t) q))) in
-        rw (weak (maskOf s t p) (mask-valid s w t p) has))))
+        rw (weak (maskOf s t p) (mask-valid s w t p) has)))))
 
     -- A level that is not enabled was not at the start.
     not-grown : (v l : ℕ) → enabledOn s v l ≡ false → E v l ≡ false
@@ -304,7 +304,7 @@ module _ (K : ℕ) (E : ℕ → ℕ → Bool) (H : ℕ → Bool) where
   pub record Reached (s : State) : Type 0 where
     pub modes : wellModed s ≡ true
     pub grown : (v l : ℕ) → E v l ≡ true → enabledOn s v l ≡ true
-    pub pages : (p : ℕ) → H p ≡ closed K s p
+    pub pages : (p : ℕ) → closed K s p ≡ false → H p ≡ false
 
   pub step-hide : 1 ≤ K → (s : State) → Reached s → (e : Event) → quietMaker K s (maker e) ≡ true → step (hide K E H s) e ≡ hideOutcome (step s e)
   unfolding step

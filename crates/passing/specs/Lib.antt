@@ -1,0 +1,3 @@
+-- What saving and resuming give (02, request 2). Assumes nothing.
+pub mod Passing  -- what is written by saving, and by resuming
+pub mod PassingClaims  -- what is proved of them
