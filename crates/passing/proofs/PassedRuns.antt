@@ -21,7 +21,7 @@ use Rattle.model.proofs.Whole.{active-hide}
 use Rattle.listing.specs.Listing.{answered, laterRecords}
 use Rattle.model.specs.LevelColumn.{processorOf}
 use Rattle.records.specs.Values.{plain}
-use Rattle.records.proofs.Bytes.{read-back}
+use Rattle.records.proofs.SameBytes.{read-back}
 use Rattle.script.specs.Records.{lines}
 use Rattle.script.specs.EventForms.{lineEvent}
 use Rattle.script.specs.declared.Parsed.{Parsed}

@@ -5,7 +5,7 @@ use Prim.Native.Nat.{ℕ}
 use Rattle.model.specs.State.{State}
 use Rattle.listing.specs.Listing.{answered, firstDone, firstRefused, laterRecords, stateBy}
 use Rattle.records.specs.Reading.{Passed, passedOn}
-use Rattle.records.specs.Texts.{recordsText}
+use Rattle.records.specs.RecordTexts.{recordsText}
 use Rattle.script.specs.EventForms.{lineEvent}
 use Rattle.script.specs.First.{lineFirst}
 use Rattle.script.specs.Records.{lines}

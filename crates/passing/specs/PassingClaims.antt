@@ -9,7 +9,7 @@ use Rattle.model.specs.declared.answer.Answer.{Answer}
 use Rattle.model.specs.State.{State}
 use Rattle.model.specs.WellFormed.{wellFormed}
 use Rattle.listing.specs.Listing.{Answered, answered, firstDone, laterRecords, numberAfter}
-use Rattle.records.specs.Texts.{recordsText}
+use Rattle.records.specs.RecordTexts.{recordsText}
 use Rattle.records.specs.Values.{plain, Sized}
 use Rattle.script.specs.EventForms.{lineEvent}
 use Rattle.script.specs.ListingLine.{listingLine}

@@ -18,13 +18,13 @@ use Rattle.script.specs.EventForms.{processor, page}
 use Rattle.script.specs.LineForms.{tab}
 use Rattle.script.specs.ListingLine.{cell, lineFeed}
 use Rattle.script.specs.Texts.{parted, firstLineOf, firstText, written}
-use Rattle.records.specs.Claims.{ShortText}
+use Rattle.records.specs.RecordClaims.{ShortText}
 use Rattle.records.specs.Places.{Place, PartitionEnabled, Mbec, Config, Active, Shared, Register, Tpr, Pending, Enabled, Secure, Reason, From, Rax, Rcx, Word, Mask, rising, privateCount, sharedCount, levelPlaces, processorPlaces, upperPlaces, contextPlaces, pagePlaces, ofLevels, ofProcessors, ofContexts, ofPages, places, has, endRank, rank}
-use Rattle.records.specs.Texts.{headOf, closed, front, recordLine, firstOf, linesAt, recordLines, ended, recordsText}
+use Rattle.records.specs.RecordTexts.{headOf, closed, front, recordLine, firstOf, linesAt, recordLines, ended, recordsText}
 use Rattle.records.specs.Values.{setupAt, valueAt}
 use Rattle.records.proofs.Limits.{limits}
 use Rattle.records.proofs.Sequence.{Small, Run, counts, count-bounds, places-run}
-use Rattle.records.proofs.Whole.{small}
+use Rattle.records.proofs.PlainStates.{small}
 
 -- Each number gives at most so many places, and exactly one.
 length-rising : (f : ℕ → List Place) (most start count end : ℕ) → start + count ≡ end → ((i : ℕ) → start ≤ i → i < end → length (f i) ≤ most)

@@ -18,7 +18,7 @@ use Rattle.script.specs.declared.Start.{Start}
 use Rattle.script.specs.declared.Start.the-variants as start
 use Rattle.state.specs.Lent.{setupOf}
 use Rattle.records.specs.Places.{Place, PartitionEnabled, Mbec, Config, Active, Shared, Register, Tpr, Pending, Enabled, Secure, Reason, From, Rax, Rcx, Word, Mask, places, has, rank}
-use Rattle.records.specs.Texts.{front}
+use Rattle.records.specs.RecordTexts.{front}
 use Rattle.records.specs.Values.{stateFrom}
 
 -- A quantity that is yes or no is 0 or 1. (That `secure` is at most 3 is a clause of well-formed states: its reserved bits are 0.)

@@ -17,7 +17,7 @@ use Rattle.records.specs.declared.place.Next.{Next}
 use Rattle.records.specs.declared.place.Next.the-variants.{At, Done}
 use Rattle.records.specs.declared.place.Place.{Place}
 use Rattle.records.specs.Places.{places, has, endRank, rank}
-use Rattle.records.specs.Texts.{closed, front, recordLine, firstOf, linesAt, recordLines, ended, recordsText}
+use Rattle.records.specs.RecordTexts.{closed, front, recordLine, firstOf, linesAt, recordLines, ended, recordsText}
 use Rattle.records.specs.Values.{number, setupAt, valueAt}
 use Rattle.records.specs.Walk.{firstDue, nextOf}
 use Rattle.records.proofs.Sequence.{Small, Run, places-run}

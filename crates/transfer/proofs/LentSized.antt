@@ -27,9 +27,9 @@ use Rattle.state.specs.Lent.{machineOf, lent}
 use Rattle.records.specs.declared.place.Place.{Place}
 use Rattle.records.specs.declared.place.Place.the-variants.{PartitionEnabled, Mbec, Config, Active, Shared, Register, Tpr, Pending, Enabled, Secure, Reason, From, Rax, Rcx, Word, Mask}
 use Rattle.model.specs.WellFormed.{wellFormed}
-use Rattle.records.proofs.Bytes.{read-back}
+use Rattle.records.proofs.SameBytes.{read-back}
 use Rattle.records.specs.Reading.{passedOn}
-use Rattle.records.specs.Texts.{recordsText}
+use Rattle.records.specs.RecordTexts.{recordsText}
 use Rattle.records.specs.Values.{number, plain, valueAt, Sized, SizedContext, SizedVp}
 use Rattle.script.specs.Records.{lines}
 

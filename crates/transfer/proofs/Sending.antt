@@ -10,7 +10,7 @@ use Rattle.decimal.proofs.TextRoom.{after-room, with-room, after-no-room, with-
 use Rattle.decimal.specs.Write.{afterText, withText}
 use Rattle.model.specs.State.{State}
 use Rattle.model.specs.WellFormed.{wellFormed}
-use Rattle.records.specs.Texts.{recordsText}
+use Rattle.records.specs.RecordTexts.{recordsText}
 use Rattle.transfer.specs.Sent.{sentText}
 
 -- The number of bytes and the buffer, as the writer promises them.

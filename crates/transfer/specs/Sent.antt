@@ -7,7 +7,7 @@ use Rattle.model.specs.State.{State}
 use Rattle.model.specs.WellFormed.{wellFormed}
 use Rattle.records.specs.declared.place.Place.{Place}
 use Rattle.records.specs.Places.{places}
-use Rattle.records.specs.Texts.{firstOf, front, recordsText}
+use Rattle.records.specs.RecordTexts.{firstOf, front, recordsText}
 use Rattle.records.specs.Values.{setupAt, valueAt}
 use Rattle.script.specs.ListingLine.{cell, lineFeed}
 use Rattle.script.specs.Texts.{firstLineOf}

@@ -5,7 +5,7 @@ ghost use mathlib.Core.Path.{_≡_};
 ghost use Prim.Native.Nat.{_+_, _≤_};
 ghost use lib.ListN.{length};
 ghost use lib.Seq.{sets};
-ghost use Rattle.records.specs.Texts.{closed, front as frontText};
+ghost use Rattle.records.specs.RecordTexts.{closed, front as frontText};
 ghost use Rattle.records.specs.Values.{number as numberOf};
 ghost use Rattle.script.specs.ListingLine.{cell};
 ghost use Rattle.transfer.specs.Sent.{firstRecordText, recordText};

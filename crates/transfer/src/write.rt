@@ -6,7 +6,7 @@ ghost use lib.ListN.{length};
 ghost use lib.Seq.{sets};
 ghost use Rattle.decimal.specs.Write.{afterText, withText};
 ghost use Rattle.model.specs.WellFormed.{wellFormed};
-ghost use Rattle.records.specs.Texts.{longestText, recordsText};
+ghost use Rattle.records.specs.RecordTexts.{longestText, recordsText};
 ghost use Rattle.state.specs.Lent.{lent};
 ghost use Rattle.transfer.specs.Sent.{placesText, sentText};
 use crate::quantity::quantity;

@@ -6,7 +6,7 @@ use Rattle.records.specs.declared.place.Place.{Place}
 use Rattle.records.specs.Values.{number, valueAt}
 use Rattle.records.proofs.Limits.{Limits, limits}
 use Rattle.state.specs.Lent.{lent}
-use Rattle.transfer.proofs.Kept.{kept, keptAt}
+use Rattle.transfer.proofs.QuantityWords.{kept, keptAt}
 use Rattle.transfer.proofs.quantity.quantity.Statement.{statement}
 use Rattle.transfer.proofs.quantity.quantity.Tie as tie
 

@@ -4,7 +4,7 @@ use Prim.Native.Nat.{_-_, _≤_}
 use native.Mathlib.Omega.{arith}
 use lib.ListN.{length, getD, take}
 use lib.Seq.{take-all}
-use Rattle.records.specs.Texts.{closed}
+use Rattle.records.specs.RecordTexts.{closed}
 use Rattle.script.proofs.Cells.{Written, written-length, written-next}
 use Rattle.script.specs.LineForms.{tab}
 use Rattle.script.specs.ListingLine.{cell}

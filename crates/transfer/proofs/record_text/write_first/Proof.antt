@@ -6,7 +6,7 @@ use borrow.Author.Needs.{needs}
 use native.Mathlib.Omega.{arith}
 use lib.ListN.{length}
 use lib.Seq.{sets}
-use Rattle.records.specs.Texts.{closed}
+use Rattle.records.specs.RecordTexts.{closed}
 use Rattle.records.specs.Values.{number}
 use Rattle.script.proofs.Cells.{Written, written-next}
 use Rattle.script.specs.Bytes.{bytes}

@@ -1,6 +1,6 @@
 -- `record_text::write_front` meets its contract, place by place. Assumes nothing.
 use borrow.Author.Needs.{needs}
-use Rattle.records.specs.Texts.{front, headOf}
+use Rattle.records.specs.RecordTexts.{front, headOf}
 use Rattle.transfer.proofs.record_text.write_front.Statement.{statement}
 use Rattle.transfer.proofs.record_text.write_front.Tie as tie
 

@@ -1,6 +1,6 @@
 -- `record_text::write_head` meets its contract: the word, and the numbers after it. Assumes nothing.
 use borrow.Author.Needs.{needs}
-use Rattle.records.specs.Texts.{closed}
+use Rattle.records.specs.RecordTexts.{closed}
 use Rattle.script.proofs.Cells.{written-next}
 use Rattle.transfer.proofs.Stores.{first-room, second-room}
 use Rattle.transfer.proofs.record_text.write_head.Statement.{statement}

@@ -1,6 +1,6 @@
 -- `record_text::write_record` meets its contract: word and indices, and the number after them. Assumes nothing.
 use borrow.Author.Needs.{needs}
-use Rattle.records.specs.Texts.{front}
+use Rattle.records.specs.RecordTexts.{front}
 use Rattle.script.proofs.Cells.{written-next}
 use Rattle.script.specs.ListingLine.{cell, lineFeed}
 use Rattle.transfer.specs.Sent.{recordText}

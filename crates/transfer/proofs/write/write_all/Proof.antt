@@ -7,7 +7,7 @@ use native.Mathlib.Omega.{arith}
 use lib.ListN.{length}
 use lib.Seq.{sets}
 use Rattle.model.specs.State.{State}
-use Rattle.records.specs.Texts.{recordsText}
+use Rattle.records.specs.RecordTexts.{recordsText}
 use Rattle.records.proofs.Lengths.{short-text}
 use Rattle.script.proofs.Cells.{Written, written-next}
 use Rattle.state.specs.Lent.{lent, machineOf}

@@ -9,7 +9,7 @@ use Rattle.model.specs.State.{State}
 use Rattle.records.specs.Places.{endRank}
 use Rattle.records.specs.Values.{valueAt}
 use Rattle.records.proofs.Sequence.{Small}
-use Rattle.records.proofs.Whole.{small, words-length}
+use Rattle.records.proofs.PlainStates.{small, words-length}
 use Rattle.script.proofs.Cells.{written-length}
 use Rattle.state.specs.Lent.{lent, machineOf}
 use Rattle.transfer.specs.Sent.{placesText}

@@ -6,7 +6,7 @@ use native.Mathlib.Omega.{arith}
 use lib.ListN.{length, take}
 use lib.Seq.{length-sets, sets}
 use Rattle.model.specs.State.{State}
-use Rattle.records.specs.Texts.{recordsText}
+use Rattle.records.specs.RecordTexts.{recordsText}
 use Rattle.records.proofs.Lengths.{short-text}
 use Rattle.state.specs.Lent.{lent}
 use Rattle.transfer.proofs.Sending.{sent-short, sent-whole, taken-out}

@@ -16,11 +16,11 @@ use Rattle.script.specs.ListingLine.{cell, lineFeed}
 use Rattle.script.specs.Records.{lines, linesIn}
 use Rattle.script.specs.Texts.{parted, firstText, firstLineOf, written}
 use Rattle.records.specs.Places.{Place, PartitionEnabled, Mbec, Config, Active, Shared, Register, Tpr, Pending, Enabled, Secure, Reason, From, Rax, Rcx, Word, Mask, places}
-use Rattle.records.specs.Claims.{OnlyRecords, ReadBack, SameBytes}
+use Rattle.records.specs.RecordClaims.{OnlyRecords, ReadBack, SameBytes}
 use Rattle.records.specs.Reading.{passedOn}
-use Rattle.records.specs.Texts.{headOf, closed, front, recordLine, firstOf, linesAt, recordLines, ended, recordsText}
+use Rattle.records.specs.RecordTexts.{headOf, closed, front, recordLine, firstOf, linesAt, recordLines, ended, recordsText}
 use Rattle.records.specs.Values.{setupAt, valueAt}
-use Rattle.records.proofs.Passing.{passed-back, passed-only, same-lines, equal-lines}
+use Rattle.records.proofs.ReadingBack.{passed-back, passed-only, same-lines, equal-lines}
 
 abbrev noFeed : List ℕ → Bool
 noFeed [] = true

@@ -1,4 +1,4 @@
--- What is proved of records (02, request 2), each once for all states and texts (proofs/Bytes.antt, proofs/Lengths.antt). Assumes nothing.
+-- What is proved of records (02, request 2), each once for all states and texts (proofs/SameBytes.antt, proofs/Lengths.antt). Assumes nothing.
 use mathlib.Core.Bool.{true}
 use mathlib.Core.List.{List, _++_}
 use mathlib.Core.Logic.{_↔_}
@@ -10,7 +10,7 @@ use Rattle.model.specs.State.{State}
 use Rattle.model.specs.WellFormed.{wellFormed}
 use Rattle.script.specs.Records.{lines}
 use Rattle.records.specs.Reading.{Passed, passedOn}
-use Rattle.records.specs.Texts.{longestText, recordLines, recordsText}
+use Rattle.records.specs.RecordTexts.{longestText, recordLines, recordsText}
 use Rattle.records.specs.Values.{plain, Sized}
 
 -- Reading what was written gives the same state, and leaves the script that follows.

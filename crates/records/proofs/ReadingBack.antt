@@ -26,16 +26,16 @@ use Rattle.script.specs.declared.Start.{Start}
 use Rattle.script.specs.declared.Start.the-variants as start
 use Rattle.state.specs.Lent.{setupOf}
 use Rattle.model.specs.declared.machine.Setup.{Setup}
-use Rattle.records.specs.Claims.{Exact}
+use Rattle.records.specs.RecordClaims.{Exact}
 use Rattle.records.specs.Places.{Place, PartitionEnabled, Mbec, Config, Active, Shared, Register, Tpr, Pending, Enabled, Secure, Reason, From, Rax, Rcx, Word, Mask, places, has, endRank, rank}
 use Rattle.records.specs.Reading.{isFlag, Taken, taking, among, only, stateOfValues, Passed, fromTaken, fromFirst, firstRecord, passedOn}
-use Rattle.records.specs.Texts.{firstOf, linesAt, recordLines}
+use Rattle.records.specs.RecordTexts.{firstOf, linesAt, recordLines}
 use Rattle.records.specs.Values.{setupAt, number, valueAt, contextFrom, vpFrom, stateFrom, plain, Lengths, Sized}
-use Rattle.records.proofs.Lines.{Fit, Fits, no-some, some-same, taking-back, taking-only, zipped-map}
+use Rattle.records.proofs.RecordLines.{Fit, Fits, no-some, some-same, taking-back, taking-only, zipped-map}
 use Rattle.records.proofs.Made.{made, flag-back}
 use Rattle.records.proofs.Sequence.{Small, Run, In, here, there, member, places-run, run-has, run-above, among-in, among-all, map-same}
 use Rattle.records.proofs.Tables.{getD-table, length-table}
-use Rattle.records.proofs.Whole.{only-has, only-not, flag, small, plain-is}
+use Rattle.records.proofs.PlainStates.{only-has, only-not, flag, small, plain-is}
 
 -- The clauses of an admissible first line.
 module _ (f : FirstLine) (h : admissible f ≡ true) where

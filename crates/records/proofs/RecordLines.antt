@@ -17,7 +17,7 @@ use Rattle.decimal.specs.declared.Number.{Number}
 use Rattle.decimal.specs.declared.Number.the-variants.{Value, Malformed}
 use Rattle.records.specs.Places.{Place}
 use Rattle.records.specs.Reading.{isFlag, numberAfter, taken, lineValue, Taken, followed, taking}
-use Rattle.records.specs.Texts.{front, recordLine, linesAt}
+use Rattle.records.specs.RecordTexts.{front, recordLine, linesAt}
 
 pub no-some : {A B : Type 0} {x : A} → none ≡ some x → B
 no-some h = absurd (let z : _≡_ {A = ℕ} 0 1 = cc in omega arith)
