@@ -32,7 +32,8 @@ mod store; // a quantity stored at a place
 mod walk; // the place that is due after another
 
 // What reading gives: whether the records were accepted, how many bytes they take, and the machine in its parts: what stays the same,
-// the words of the levels, the masks, the records of four processors, and the words of the pages, as many as there are.
+// the words of the levels, the masks, the records of four processors, and the words of the pages, as many as there are. Where they were
+// not accepted there is no machine: what the other fields hold then is left open, and so are the words beyond the pages.
 pub struct Received {
     pub accepted: bool,
     pub used: usize,
@@ -155,7 +156,8 @@ fn receive(input: &[u8], from: usize, setup: Setup) -> Received
     }
 }
 
-// Reads a machine from the records that the input begins with.
+// Reads a machine from the records that the input begins with: the state and the lines after them are those of `passedOn`, or nothing is
+// accepted.
 pub fn read(input: &[u8]) -> Received
     ensures passed { λ r. ⌜ passedIn r (now (input .entry)) ≡ passedOn (lines (now (input .entry))) ⌝ }
     ensures used { λ r. ⌜ Used r (now (input .entry)) ⌝ }
