@@ -19,7 +19,7 @@ pub passes-none : (bytes : List ℕ) → Passes bytes 0 0
 unfolding ended
 passes-none bytes = record { passed = []; counted = refl; split = refl; place = omega arith }
 
-ended-append : (a b : List (List ℕ)) → length (ended (a ++ b)) ≡ length (ended a) + length (ended b)
+pub ended-append : (a b : List (List ℕ)) → length (ended (a ++ b)) ≡ length (ended a) + length (ended b)
 unfolding ended
 ended-append [] b = omega arith
 ended-append (line ∷ a) b =

@@ -65,7 +65,7 @@ joined-begins (l ∷ ls) (k ∷ complete) rest more e h =
           ∙ sym (append-assoc l (lineFeed ∷ ended ls) (b .tail));
     }
 
-begins : (bytes : List ℕ) (ls more : List (List ℕ)) → lines bytes ≡ ls ++ more → length (ended ls) ≤ length bytes → Begins bytes (ended ls)
+pub begins : (bytes : List ℕ) (ls more : List (List ℕ)) → lines bytes ≡ ls ++ more → length (ended ls) ≤ length bytes → Begins bytes (ended ls)
 unfolding lines
 begins bytes ls more e h =
     let whole = lines-joined bytes in
@@ -115,7 +115,7 @@ module _ (ls rest other : List (List ℕ)) (r : Passed) (n : length ls ≡ lengt
       go true a e = taken-rest (setupOf f) (taking (places (setupOf f)) (ls ++ rest)) refl e
 
 -- Where records are accepted, the text of their state is, and any script may follow it.
-accepts : (input : List ℕ) (r : Passed) → passedOn (lines input) ≡ some r → (script : List ℕ)
+pub accepts : (input : List ℕ) (r : Passed) → passedOn (lines input) ≡ some r → (script : List ℕ)
     → passedOn (lines (recordsText (r .state) ++ script)) ≡ some (record { state = r .state; rest = lines script })
 unfolding passedOn recordLines
 accepts input r h script =

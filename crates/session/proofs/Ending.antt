@@ -40,7 +40,7 @@ use Rattle.listing.specs.Answer.{levelOn, levelShown, shownBy, shownOf}
 use Rattle.listing.specs.Listing.{answered, numberAfter, recordOf, stateBy}
 use Rattle.model.specs.LevelColumn.{levelColumn, processorOf}
 use Rattle.session.specs.SessionParts.{blankIn, hasStopped, isLater}
-use Rattle.session.specs.Session.{Progress, begun, continued, ended, extended, first, isStopped, kept, lastText, later, lentOf, progressIn, roomFor, stopped}
+use Rattle.session.specs.Session.{Progress, begun, continued, ended, extended, first, isStopped, kept, lastEnded, later, lentOf, progressIn, roomFor, stopped}
 use Rattle.chunk.specs.Chunk.{held}
 
 -- A session of each phase that holds no bytes, and one that takes more bytes.
@@ -153,13 +153,13 @@ module _ (s next : State) (e : Event) (formed : Bool) (well : formed ≡ wellFor
 
 -- At the end of a script: a later line that has no bytes, and any other line.
 pub last-none : (p : Phase) (number : ℕ) (s : State) (line : List ℕ) → (isLater p && eqb (length line) 0) ≡ true
-    → lastText (progressIn p number s line) ≡ []
+    → lastEnded (progressIn p number s line) ≡ record { progress = progressIn p number s line; text = [] }
 last-none phase.First number s line e = absurd (false≢true e)
 last-none phase.Later number s line e = rw e
 last-none phase.Stopped number s line e = refl
 
 pub last-some : (p : Phase) (number : ℕ) (s : State) (line : List ℕ) → (isLater p && eqb (length line) 0) ≡ false
-    → lastText (progressIn p number s line) ≡ ended (progressIn p number s line) .text
+    → lastEnded (progressIn p number s line) ≡ ended (progressIn p number s line)
 unfolding ended
 last-some phase.First number s line e = refl
 last-some phase.Later number s line e = rw e

@@ -20,7 +20,7 @@ use Rattle.script.specs.ListingLine.{lineFeed, longestRecord}
 use Rattle.session.specs.Calls.{Consumed, Cut, Reached, Whole, calls}
 use Rattle.listing.specs.Listing.{answered, firstDone, laterRecords, listing, listingFrom, listingOf, numberAfter, recordOf, stateBy}
 use Rattle.script.specs.Records.{Lines, inFront, lastLine, lines, linesIn}
-use Rattle.session.specs.Session.{Ended, Feeding, Progress, after, begun, consumed, consumedLines, ended, extended, fed, fedLines, finished, first, followed, kept, lastText, later, roomFor, stopped}
+use Rattle.session.specs.Session.{Ended, Feeding, Progress, after, begun, consumed, consumedLines, ended, extended, fed, fedLines, finished, first, followed, kept, lastEnded, lastText, later, roomFor, stopped}
 use Rattle.chunk.proofs.ChunkLines.{joined, lines-joined, withLine}
 use Rattle.session.proofs.Ending.{ended-kept}
 
@@ -96,12 +96,15 @@ extended-none (first line) = ap first (append-nil line)
 extended-none (later number s line) = ap (later number s) (append-nil line)
 extended-none stopped = refl
 
-last-kept : (p : Progress) → lastText (kept p) ≡ lastText p
-last-kept (first line) = ap (λ (e : Ended). e .text) (ended-kept (first line))
+-- At the end of the input a line that has bytes is ended, and only what is kept of it counts.
+pub last-bytes : (number : ℕ) (s : State) (byte : ℕ) (line : List ℕ) → lastEnded (later number s (byte ∷ line)) ≡ ended (later number s (byte ∷ line))
+last-bytes number s byte line = rw (ne-eqb (suc (length line)) 0 (λ z. omega arith))
+
+pub last-kept : (p : Progress) → lastEnded (kept p) ≡ lastEnded p
+last-kept (first line) = ended-kept (first line)
 last-kept (later number s []) = refl
 last-kept (later number s (byte ∷ line)) =
-    rw (ne-eqb (suc (length (take 256 line))) 0 (λ z. omega arith), ne-eqb (suc (length line)) 0 (λ z. omega arith))
-    (ap (λ (e : Ended). e .text) (ended-kept (later number s (byte ∷ line))))
+    last-bytes number s byte (take 256 line) ∙ ended-kept (later number s (byte ∷ line)) ∙ sym (last-bytes number s byte line)
 last-kept stopped = refl
 
 -- Bytes of a line, and then more of it.
@@ -157,23 +160,23 @@ cut (call ∷ run) p = record {
 -- Nothing more is consumed.
 finished-none : (p : Progress) → finished (consumed p []) ≡ lastText p
 unfolding consumed consumedLines linesIn
-finished-none p = ap (λ (q : Progress). lastText (kept q)) (extended-none p) ∙ last-kept p
+finished-none p = ap (λ (q : Progress). lastText (kept q)) (extended-none p) ∙ ap (λ (e : Ended). e .text) (last-kept p)
 
 -- What a session writes for later lines is their records; one that has stopped writes nothing.
-finished-after : (text : List ℕ) (e : Ended) → finished (after text e) ≡ text ++ finished e
+pub finished-after : (text : List ℕ) (e : Ended) → finished (after text e) ≡ text ++ finished e
 finished-after text e = append-assoc text (e .text) (lastText (e .progress))
 
-later-finished : (ls : List (List ℕ)) (rest : List ℕ) (number : ℕ) (s : State) → finished (consumedLines (later number s []) ls rest) ≡ laterRecords number s (ls ++ lastLine rest)
+pub later-finished : (ls : List (List ℕ)) (rest : List ℕ) (number : ℕ) (s : State) → finished (consumedLines (later number s []) ls rest) ≡ laterRecords number s (ls ++ lastLine rest)
 unfolding consumedLines laterRecords ended
 later-finished [] [] number s = refl
 later-finished [] (byte ∷ rest) number s =
-    last-kept (later number s (byte ∷ rest)) ∙ rw (ne-eqb (suc (length rest)) 0 (λ z. omega arith)) (sym (append-nil _))
+    ap (λ (e : Ended). e .text) (last-kept (later number s (byte ∷ rest)) ∙ last-bytes number s byte rest) ∙ sym (append-nil _)
 later-finished (line ∷ ls) rest number s =
     let a = answered s (lineEvent line) in
     finished-after (recordOf number a) (consumedLines (later (numberAfter number) (a .next) []) ls rest)
     ∙ ap (λ (l : List ℕ). recordOf number a ++ l) (later-finished ls rest (numberAfter number) (a .next))
 
-stopped-finished : (ls : List (List ℕ)) (rest : List ℕ) → finished (consumedLines stopped ls rest) ≡ []
+pub stopped-finished : (ls : List (List ℕ)) (rest : List ℕ) → finished (consumedLines stopped ls rest) ≡ []
 unfolding consumedLines ended
 stopped-finished [] rest = refl
 stopped-finished (line ∷ ls) rest = stopped-finished ls rest

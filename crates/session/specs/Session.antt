@@ -124,11 +124,15 @@ consumedLines p (line ∷ more) rest = let e = ended (extended p line) in after 
 unfoldable pub consumed : Progress → List ℕ → Ended
 consumed p chunk = consumedLines p (linesIn chunk .complete) (linesIn chunk .rest)
 
--- What is written at the end: the record of a last line that lacks its line feed, or of an empty input.
+-- What the end of the input leaves and writes: a last line that lacks its line feed is ended, and so is the first line of an empty input.
+abbrev pub lastEnded : Progress → Ended
+lastEnded (first line) = ended (first line)
+lastEnded (later number s line) =
+    cond (eqb (length line) 0) (record { progress = later number s line; text = [] }) (ended (later number s line))
+lastEnded stopped = record { progress = stopped; text = [] }
+
 abbrev pub lastText : Progress → List ℕ
-lastText (first line) = ended (first line) .text
-lastText (later number s line) = cond (eqb (length line) 0) [] (ended (later number s line) .text)
-lastText stopped = []
+lastText p = lastEnded p .text
 
 -- All that is written of an input once it has ended.
 abbrev pub finished : Ended → List ℕ

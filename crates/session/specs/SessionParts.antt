@@ -15,7 +15,7 @@ use Rattle.script.specs.declared.Parsed.{Parsed}
 use Rattle.session.specs.declared.Fed.{Fed}
 use Rattle.session.specs.declared.Phase.{Phase}
 use Rattle.session.specs.declared.Phase.the-variants as phase
-use Rattle.session.specs.declared.lines.Written.{Written}
+use Rattle.session.specs.declared.Written.{Written}
 use Rattle.session.specs.Session.{Ended, Feeding, Progress, first, later, progressOf, stopped}
 
 -- The phases of a session.

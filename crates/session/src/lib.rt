@@ -1,10 +1,14 @@
 // A script that comes in chunks, and its listing (01, "Script and listing"). A caller makes a session, feeds it the script's
 // chunks in order, and finishes it; what is written on the way is the listing of the whole. Every function takes any arguments.
-ghost use mathlib.Core.List.{[]};
+ghost use mathlib.Core.List.{[], _∷_};
 ghost use mathlib.Core.Path.{_≡_};
+ghost use Prim.Native.Nat.{min};
 ghost use lib.ListN.{length};
 ghost use lib.Seq.{sets};
-ghost use Rattle.session.specs.Session.{Bounds, fed, first, isStopped, lastText, progressOf};
+ghost use Rattle.session.specs.Session.{Bounds, fed, first, isStopped, lastEnded, later, lentOf, progressOf};
+ghost use Rattle.session.specs.Session.{stopped as stoppedSession};
+ghost use Rattle.session.specs.SessionParts.{EndedBy};
+ghost use Rattle.state.specs.Lent.{lent};
 use model::machine::Setup;
 use partition::level::Levels;
 use partition::mask::Masks;
@@ -24,26 +28,26 @@ pub enum Phase {
     Stopped,
 }
 
-// What is kept from chunk to chunk. What the buffer holds beyond the line, and the words beyond those lent, are no part of it: no
+// What is kept from chunk to chunk. Any values make a session. What the buffer holds beyond the line, and the words beyond those lent, are no part of it: no
 // contract speaks of them.
 pub struct Session {
-    phase: Phase,
+    pub phase: Phase,
     // The number of the line that comes next.
-    number: u64,
+    pub number: u64,
     // The beginning of a line that goes on in the next chunk: so many bytes of the buffer.
-    length: usize,
-    line: [u8; chunk::KEPT_BYTES],
+    pub length: usize,
+    pub line: [u8; chunk::KEPT_BYTES],
     // The machine in its parts: what stays the same, the words of the levels, the masks, and the records of four processors.
-    setup: Setup,
-    levels: Levels,
-    masks: Masks,
-    first: Record,
-    second: Record,
-    third: Record,
-    fourth: Record,
+    pub setup: Setup,
+    pub levels: Levels,
+    pub masks: Masks,
+    pub first: Record,
+    pub second: Record,
+    pub third: Record,
+    pub fourth: Record,
     // The words of its pages: so many of the array.
-    lent: usize,
-    words: [u64; 64],
+    pub lent: usize,
+    pub words: [u64; 64],
 }
 
 // The session after a chunk, how much of the chunk was used, and how much was written.
@@ -53,11 +57,75 @@ pub struct Fed {
     pub wrote: usize,
 }
 
+// The session after a line, and how many bytes its record has.
+pub struct Written {
+    pub session: Session,
+    pub wrote: usize,
+}
+
 // A session before the first byte.
 pub fn fresh() -> Session
     ensures { λ r. ⌜ progressOf r ≡ first [] ⌝ }
 {
     lines::blank(Phase::First)
+}
+
+// A session whose first line was refused: it has stopped.
+pub fn refused() -> Session
+    ensures { λ r. ⌜ progressOf r ≡ stoppedSession ⌝ }
+{
+    lines::blank(Phase::Stopped)
+}
+
+// A session before line 1 on a machine whose parts are given, with as many words as the machine has pages.
+pub fn on_machine(
+    setup: Setup,
+    levels: Levels,
+    masks: Masks,
+    vps: [Record; 4],
+    words: [u64; 64],
+) -> Session
+    ensures { λ r. ⌜ progressOf r ≡ later 1 (lent setup levels masks vps (lentOf words (setup .pages))) [] ⌝ }
+{
+    let first = vps[0];
+    let second = vps[1];
+    let third = vps[2];
+    let fourth = vps[3];
+    Session {
+        phase: Phase::Later,
+        number: 1,
+        length: 0,
+        line: [0; chunk::KEPT_BYTES],
+        setup,
+        levels,
+        masks,
+        first,
+        second,
+        third,
+        fourth,
+        lent: setup.pages as usize,
+        words,
+    }
+}
+
+// How many words of a session's array are lent.
+pub fn lent_words(words: &[u64; 64], lent: usize) -> usize
+    ensures number { λ r. ⌜ r ≡ min lent 64 ⌝ }
+    ensures size { λ _. ⌜ length (now (words .entry)) ≡ 64 ⌝ }
+{
+    let all: &[u64] = words;
+    chunk::at_most(lent, all.len())
+}
+
+// The records of the four processors of a session.
+pub fn records(start: Session) -> [Record; 4]
+    ensures { λ r. ⌜ r ≡ start .first ∷ start .second ∷ start .third ∷ start .fourth ∷ [] ⌝ }
+{
+    let first = start.first;
+    let second = start.second;
+    let third = start.third;
+    let fourth = start.fourth;
+    [first, second, third, fourth]
 }
 
 // Whether a session has stopped after a refused first line: what follows is not read.
@@ -121,19 +189,17 @@ pub fn feed(start: Session, chunk: &[u8], out: &mut [u8]) -> Fed
     lines::feed_later(next, chunk, end + 1, out, ended.wrote)
 }
 
-// Writes the record of a last line that lacks its line feed, or of an empty input, and says how many bytes that took.
-pub fn finish(session: Session, out: &mut [u8; LONGEST_RECORD]) -> usize
-    ensures { λ r. ⌜ r ≡ length (lastText (progressOf session)) ⌝ }
-    ensures { λ _. ⌜ now (out .exit) ≡ sets (now (out .entry)) 0 (lastText (progressOf session)) ⌝ }
-    ensures { λ r. ⌜ Bounds 0 r [] (now (out .exit)) ⌝ }
+// Ends the input: writes the record of a last line that lacks its line feed, or of an empty input, and says how many bytes that took.
+pub fn finish(session: Session, out: &mut [u8; LONGEST_RECORD]) -> Written
+    ensures ended { λ r. ⌜ EndedBy (lastEnded (progressOf session)) r (now (out .entry)) (now (out .exit)) ⌝ }
+    ensures bounds { λ r. ⌜ Bounds 0 (r .wrote) [] (now (out .exit)) ⌝ }
 {
     let phase = session.phase;
     let line = session.line;
     let held = chunk::held_length(&line, session.length);
     if lines::is_later(phase) & (held == 0) {
-        return 0;
+        return Written { session, wrote: 0 };
     }
     let buffer: &mut [u8] = out;
-    let ended = lines::end_line(session, buffer);
-    ended.wrote
+    lines::end_line(session, buffer)
 }

@@ -3,7 +3,7 @@ ghost use mathlib.Core.Bool.{true};
 ghost use mathlib.Core.List.{[], _∷_};
 ghost use mathlib.Core.Option.{none, some};
 ghost use mathlib.Core.Path.{_≡_};
-ghost use Prim.Native.Nat.{min, _-_, _≤_};
+ghost use Prim.Native.Nat.{_-_, _≤_};
 ghost use lib.ListN.{drop, length, replicate};
 ghost use Rattle.model.specs.Fresh.{admissible, fresh};
 ghost use Rattle.state.specs.Lent.{lent};
@@ -17,8 +17,11 @@ use crate::Fed;
 use crate::LONGEST_RECORD;
 use crate::Phase;
 use crate::Session;
+use crate::Written;
+use crate::lent_words;
 use crate::line_answer::answer_line;
 use crate::listing_record;
+use crate::records;
 use listing::Shown;
 use model::machine::FirstLine;
 use model::quantity::Level;
@@ -28,12 +31,6 @@ use processor::record::Record;
 use script::Start;
 use state::fresh;
 use state::well_formed_state::well_formed;
-
-// The session after a line, and how many bytes its record has.
-pub struct Written {
-    pub session: Session,
-    pub wrote: usize,
-}
 
 // Whether a session is in this phase: stopped after a refused first line, or in a later line.
 pub(crate) fn has_stopped(phase: Phase) -> bool
@@ -96,7 +93,7 @@ pub(crate) fn blank(phase: Phase) -> Session
 }
 
 // The session before a later line, with the machine and the words that the line before it left.
-fn resume(
+fn after_line(
     start: Session,
     number: u64,
     levels: Levels,
@@ -191,26 +188,6 @@ fn end_first(start: Session, out: &mut [u8]) -> Written
     begin(first, out)
 }
 
-// How many words of a session's array are lent.
-fn lent_words(words: &[u64; 64], lent: usize) -> usize
-    ensures number { λ r. ⌜ r ≡ min lent 64 ⌝ }
-    ensures size { λ _. ⌜ length (now (words .entry)) ≡ 64 ⌝ }
-{
-    let all: &[u64] = words;
-    chunk::at_most(lent, all.len())
-}
-
-// The records of the four processors of a session.
-fn records(start: Session) -> [Record; 4]
-    ensures { λ r. ⌜ r ≡ start .first ∷ start .second ∷ start .third ∷ start .fourth ∷ [] ⌝ }
-{
-    let first = start.first;
-    let second = start.second;
-    let third = start.third;
-    let fourth = start.fourth;
-    [first, second, third, fourth]
-}
-
 // Ends a later line.
 fn end_later(start: Session, out: &mut [u8]) -> Written
     requires { ⌜ longestRecord ≤ length (now out) ⌝ }
@@ -238,7 +215,7 @@ fn end_later(start: Session, out: &mut [u8]) -> Written
         &line[..size],
     );
     let wrote = listing_record::write_record(out, 0, listing_record::line_number(number), shown);
-    let session = resume(start, next, levels, masks, vps, words);
+    let session = after_line(start, next, levels, masks, vps, words);
     Written { session, wrote }
 }
 
@@ -288,7 +265,7 @@ pub(crate) fn feed_later(
     loop {
         let end = chunk::line_end(chunk, i);
         if chunk.len() <= end {
-            let session = resume(start, line.number, levels, masks, vps, words);
+            let session = after_line(start, line.number, levels, masks, vps, words);
             return Fed {
                 session: keep(session, &chunk[i..]),
                 used: end,
@@ -297,7 +274,7 @@ pub(crate) fn feed_later(
         }
         if out.len() - wrote < LONGEST_RECORD {
             return Fed {
-                session: resume(start, line.number, levels, masks, vps, words),
+                session: after_line(start, line.number, levels, masks, vps, words),
                 used: i,
                 wrote,
             };

@@ -43,7 +43,7 @@ returns c =
     rw (← words .ensures .0, ← rows .ensures, ← held-taken (a .start .line) (a .start .length) _ (size .ensures))
     (record {
       progress =
-          c .resume .ensures
+          c .after-line .ensures
           ∙ rw (c .before .before .before .before .before .before .before .before .before .before .before .before .before .before .before .before .before .before .before .before .before .before .before .before .before .before .before .wrapping-add-u64 .ensures, ← words .ensures .0, words-back (a .start .words) _ (words .result) (omega (arith, words .ensures)) (w .kept .1 .1 .1 .1 .1 .0))
           (e .0);
       wrote = written .0 ∙ zero-add _ ∙ ap length (e .1);

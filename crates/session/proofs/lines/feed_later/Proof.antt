@@ -64,7 +64,7 @@ returns c =
     let chunk = l .before .before .before .before .before .before .before .before .before .before .before .before .before .before .before .before .args .chunk .now in
     let rest : length (drop (l .loop .i) chunk) ≤ length chunk - l .loop .i = omega (arith, length-drop (l .loop .i) chunk) in
     feeds-last (l .loop .inv .2) _ (found .line-end .ensures) (c .before .before .before .if1 .taken) _
-    (c .keep .ensures ∙ rw (c .before .before .resume .ensures, ← l .before .before .before .before .before .before .lent-words .ensures .0, take-all _ _ rest)) refl refl
+    (c .keep .ensures ∙ rw (c .before .before .after-line .ensures, ← l .before .before .before .before .before .before .lent-words .ensures .0, take-all _ _ rest)) refl refl
 
 sub-if2 : tie.Need-sub-if2 Inv-loop μ-loop
 sub-if2 c = roomy (c .before .before)
@@ -76,7 +76,7 @@ returns-2 : tie.Need-returns-2 Inv-loop μ-loop
 returns-2 c =
     let found = c .before .before .before in
     let l = found .before in
-    feeds-full (l .loop .inv .2) _ (found .line-end .ensures) (c .before .before .if1 .left) (c .before .if2 .taken) _ (c .resume2 .ensures ∙ rw (← l .before .before .before .before .before .before .lent-words .ensures .0)) refl refl
+    feeds-full (l .loop .inv .2) _ (found .line-end .ensures) (c .before .before .if1 .left) (c .before .if2 .taken) _ (c .after-line2 .ensures ∙ rw (← l .before .before .before .before .before .before .lent-words .ensures .0)) refl refl
 
 sub-bytes : tie.Need-sub-bytes Inv-loop μ-loop
 sub-bytes c = placed (c .before .before) .0
