@@ -29,7 +29,6 @@ mod first; // the first record
 mod line; // what a line says of a place
 mod places; // the records after the first
 mod store; // a quantity stored at a place
-mod walk; // the place that is due after another
 
 // What reading gives: whether the records were accepted, how many bytes they take, and the machine in its parts: what stays the same,
 // the words of the levels, the masks, the records of four processors, and the words of the pages, as many as there are. Where they were

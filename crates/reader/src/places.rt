@@ -7,8 +7,6 @@ ghost use Rattle.reader.specs.Slots.{partsOf};
 use crate::line::Past;
 use crate::line::line_value;
 use crate::store::store;
-use crate::walk::next;
-use crate::walk::to_level;
 use chunk::line_end;
 use decimal::Number;
 use model::machine::Setup;
@@ -16,6 +14,7 @@ use partition::level::Levels;
 use partition::mask::Masks;
 use processor::record::Record;
 use records::place::Next;
+use records::walk;
 
 // The place after a line that ends at `end`, and after its line feed if it has one.
 pub(crate) fn after_line(input: &[u8], end: usize) -> usize
@@ -44,7 +43,7 @@ pub(crate) fn read_places(
         (partsOf (now (levels .exit)) (now (masks .exit)) (now (vps .exit)) (now (words .exit))) ⌝ }
 {
     let mut at = from;
-    let mut due = to_level(setup, 1);
+    let mut due = walk::first(setup);
     loop {
         let Next::At(place) = due else {
             return Past::At(at);
@@ -58,6 +57,6 @@ pub(crate) fn read_places(
         };
         store(levels, masks, vps, words, place, value);
         at = after_line(input, end);
-        due = next(setup, place);
+        due = walk::next(setup, place);
     }
 }

@@ -1,5 +1,4 @@
 // A machine's records written (02, request 2), from the parts that code lends. `write::write_records` takes any parts and any buffer.
 mod quantity; // the quantity at a place
 mod record_text; // the text of one record
-mod walk; // the place that is due after another
 pub mod write; // all records of a machine

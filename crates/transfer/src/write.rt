@@ -13,12 +13,12 @@ use crate::quantity::quantity;
 use crate::record_text::put;
 use crate::record_text::write_first;
 use crate::record_text::write_record;
-use crate::walk;
 use model::machine::Setup;
 use partition::level::Levels;
 use partition::mask::Masks;
 use processor::record::Record;
 use records::place::Next;
+use records::walk;
 use state::well_formed_state::well_formed;
 
 // A buffer of so many bytes has room for the records of every well-formed machine.

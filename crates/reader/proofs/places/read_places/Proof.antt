@@ -25,7 +25,7 @@ abbrev μ-loop : tie.MeasureT-loop
 loop-holds : tie.Need-loop-holds Inv-loop μ-loop
 loop-holds c =
     let s = c .before .before in
-    rw (c .to-level .ensures) (reads-start (s .pre .1 .0) (s .pre .0) (s .pre .1 .1))
+    rw (c .first .ensures) (reads-start (s .pre .1 .0) (s .pre .0) (s .pre .1 .1))
 
 returns : tie.Need-returns Inv-loop μ-loop
 returns c =
@@ -67,9 +67,6 @@ returns-3 c =
 store-requires : tie.Need-store-requires Inv-loop μ-loop
 store-requires c κs = (reads-at (rw (c .before .before .before .before .before .before .before .before .before .before .before .before .due .given .1) at (c .before .before .before .before .before .before .before .before .before .before .before .before .before .before .loop .inv))) .room
 
-next-requires : tie.Need-next-requires Inv-loop μ-loop
-next-requires c κs = (reads-at (rw (c .before .before .before .before .before .before .before .before .before .before .before .before .before .before .due .given .1) at (c .before .before .before .before .before .before .before .before .before .before .before .before .before .before .before .before .loop .inv))) .holds
-
 loop-less : tie.Need-loop-less Inv-loop μ-loop
 loop-less c =
     let d = reads-at (rw (c .before .before .before .before .before .before .before .before .before .before .before .before .before .before .before .due .given .1) at (c .before .before .before .before .before .before .before .before .before .before .before .before .before .before .before .before .before .loop .inv)) in
@@ -88,4 +85,4 @@ read-places-spec =
     (tie.spec Inv-loop μ-loop
     (λ c κs. search needs) loop-holds (λ c. search needs) (λ c. search needs) returns returns-2 (λ c κs. search needs) sub-line-value
     part-line-value-start part-line-value-end line-value-requires (λ c. search needs) (λ c. search needs) returns-3 store-requires
-    (λ c κs. search needs) next-requires loop-less loop-again)
+    (λ c κs. search needs) (λ c κs. search needs) loop-less loop-again)

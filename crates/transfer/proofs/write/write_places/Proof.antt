@@ -74,9 +74,6 @@ write-record-requires c κs =
     let s = k .before .before .before .before .before .before in
     rw (c .before .quantity .ensures) (due-of k .room (s .pre .1))
 
-next-requires : tie.Need-next-requires Inv-loop μ-loop
-next-requires c κs = due-of (c .before .before .before .before .before .before) .holds
-
 loop-less : tie.Need-loop-less Inv-loop μ-loop
 loop-less c =
     let k = c .before .before .before .before .before .before .before in
@@ -95,4 +92,4 @@ write-places-spec =
     tie.close
     (tie.spec
     Inv-loop μ-loop (λ c κs. search needs) loop-holds (λ c. search needs) (λ c. search needs) same-length returns quantity-requires
-    write-record-requires next-requires loop-less loop-again)
+    write-record-requires (λ c κs. search needs) loop-less loop-again)
