@@ -9,7 +9,7 @@ ghost use Rattle.model.specs.WellFormed.{wellFormed};
 ghost use Rattle.records.specs.RecordTexts.{longestText, recordsText};
 ghost use Rattle.state.specs.Lent.{lent};
 ghost use Rattle.transfer.specs.Sent.{placesText, sentText};
-use crate::quantity::quantity;
+use crate::place_quantity::quantity;
 use crate::record_text::put;
 use crate::record_text::write_first;
 use crate::record_text::write_record;

@@ -1,4 +1,4 @@
--- `quantity::quantity` meets its contract: each part keeps what `keptAt` says. Assumes nothing.
+-- `place_quantity::quantity` meets its contract: each part keeps what `keptAt` says. Assumes nothing.
 use mathlib.Core.Path.{_≡_, sym, ap, _∙_}
 use borrow.Author.Needs.{needs}
 use native.Mathlib.Omega.{arith}
@@ -7,8 +7,8 @@ use Rattle.records.specs.Values.{number, valueAt}
 use Rattle.records.proofs.Limits.{Limits, limits}
 use Rattle.state.specs.Lent.{lent}
 use Rattle.transfer.proofs.QuantityWords.{kept, keptAt}
-use Rattle.transfer.proofs.quantity.quantity.Statement.{statement}
-use Rattle.transfer.proofs.quantity.quantity.Tie as tie
+use Rattle.transfer.proofs.place_quantity.quantity.Statement.{statement}
+use Rattle.transfer.proofs.place_quantity.quantity.Tie as tie
 
 -- The bounds of the indices of the place.
 lim : (a : tie.Start) {q : Place} → a .args .place ≡ q → Limits (a .args .setup) q
