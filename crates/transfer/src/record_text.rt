@@ -10,6 +10,8 @@ ghost use Rattle.records.specs.Values.{number as numberOf};
 ghost use Rattle.script.specs.ListingLine.{cell};
 ghost use Rattle.transfer.specs.Sent.{firstRecordText, recordText};
 use model::machine::Setup;
+use records::head::indices_of;
+use records::head::word_of;
 use records::place::Place;
 
 // 1 for yes, 0 for no.
@@ -81,24 +83,13 @@ fn write_front(out: &mut [u8], at: usize, place: Place) -> usize
     ensures { λ r. ⌜ r ≡ at + length (frontText place) ⌝ }
     ensures { λ _. ⌜ now (out .exit) ≡ sets (now (out .entry)) at (frontText place) ⌝ }
 {
-    match place {
-        Place::PartitionEnabled(t) => write_head(out, at, b"enabled\t", &[t.0]),
-        Place::Mbec(t) => write_head(out, at, b"mbec\t", &[t.0]),
-        Place::Config(t) => write_head(out, at, b"config\t", &[t.0]),
-        Place::Active(v) => write_head(out, at, b"active\t", &[v.0]),
-        Place::Shared(v, r) => write_head(out, at, b"shared\t", &[v.0, r]),
-        Place::Register(v, l, r) => write_head(out, at, b"reg\t", &[v.0, l.0, r]),
-        Place::Tpr(v, l) => write_head(out, at, b"tpr\t", &[v.0, l.0]),
-        Place::Pending(v, l, i) => write_head(out, at, b"pend\t", &[v.0, l.0, i]),
-        Place::Enabled(v, l) => write_head(out, at, b"enabled\t", &[v.0, l.0]),
-        Place::Secure(v, l, k) => write_head(out, at, b"secure\t", &[v.0, l.0, k.0]),
-        Place::Reason(v, l) => write_head(out, at, b"reason\t", &[v.0, l.0]),
-        Place::From(v, l) => write_head(out, at, b"from\t", &[v.0, l.0]),
-        Place::Rax(v, l) => write_head(out, at, b"rax\t", &[v.0, l.0]),
-        Place::Rcx(v, l) => write_head(out, at, b"rcx\t", &[v.0, l.0]),
-        Place::Word(p) => write_head(out, at, b"word\t", &[p.0]),
-        Place::Mask(p, t) => write_head(out, at, b"mask\t", &[p.0, t.0]),
-    }
+    let word = word_of(place);
+    let bytes = word.0;
+    let size = word.1;
+    let indices = indices_of(place);
+    let numbers = indices.numbers;
+    let count = indices.count;
+    write_head(out, at, &bytes[..size], &numbers[..count])
 }
 
 // Writes the record of a place with the quantity `value`.
