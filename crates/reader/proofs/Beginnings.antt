@@ -1,21 +1,27 @@
 -- Laws of the bytes that a line must have before its number. Assumes nothing.
 use mathlib.Core.Bool.{Bool, true, false, cond}
-use mathlib.Core.List.{List, [], _∷_, _++_, append-assoc}
+use mathlib.Core.List.{List, [], _∷_, _++_, append-assoc, append-nil}
 use mathlib.Core.Path.{_≡_, refl, sym, ap, _∙_}
 use Prim.Native.Nat.{ℕ, zero, suc, _+_, _/_, _%_, _≤_, _<_}
 use native.Mathlib.Numerals.{add-one}
 use native.Mathlib.Omega.{arith}
 use lib.Dec.{eqb}
-use lib.ListN.{drop, drop-of-length-le, getD, length}
-use lib.Seq.{drop-cons, drop-length}
+use lib.ListN.{drop, drop-of-length-le, getD, length, take}
+use lib.Seq.{drop-cons, drop-length, take-all}
 use borrow.Author.Tests.{eq-eqb, le-ltb, lt-ltb, ne-eqb}
+use Rattle.decimal.specs.Read.{readDecimal}
 use Rattle.decimal.specs.Write.{decimal, digitsBefore, digitsIn}
 use Rattle.decimal.specs.declared.Number.{Number}
 use Rattle.decimal.specs.declared.Number.the-variants.{Malformed}
+use Rattle.records.specs.declared.place.Place.{Place}
+use Rattle.records.specs.declared.place.Place.the-variants.{PartitionEnabled, Mbec, Config, Active, Shared, Register, Tpr, Pending, Enabled, Secure, Reason, From, Rax, Rcx, Word, Mask}
 use Rattle.records.specs.Reading.{numberAfter}
+use Rattle.records.specs.RecordTexts.{closed, front, headOf}
+use Rattle.records.proofs.ClosedNumbers.{closed-parts, closed-step}
 use Rattle.script.specs.LineForms.{tab}
 use Rattle.script.specs.ListingLine.{cell}
-use Rattle.reader.specs.PastBytes.{After}
+use Rattle.reader.specs.PastBytes.{After, TwoDigits}
+use Rattle.reader.specs.Slots.{Room}
 use Rattle.reader.specs.declared.line.Past.{Past}
 use Rattle.reader.specs.declared.line.Past.the-variants.{At, Nothing}
 
@@ -80,11 +86,11 @@ module _ {line word : List ℕ} where
       same = λ more. opened h more ∙ rw (eq-eqb (getD word i 0) (getD line i 0) (sym e), add-one i);
     }
 
-    pub begun-other : (rest : List ℕ) → i < length word → (getD line i 0 ≡ getD word i 0 → ⊥) → After line 0 (word ++ rest) Nothing
-    begun-other rest h e more = rw (append-assoc word rest more) (opened h (rest ++ more) ∙ rw (ne-eqb (getD word i 0) (getD line i 0) (λ k. e (sym k))))
+    pub begun-other : i < length word → (getD line i 0 ≡ getD word i 0 → ⊥) → After line 0 word Nothing
+    begun-other h e more = opened h more ∙ rw (ne-eqb (getD word i 0) (getD line i 0) (λ k. e (sym k)))
 
-    pub begun-end : (rest : List ℕ) (r : Past) → length word ≤ i → After line (length word) rest r → After line 0 (word ++ rest) r
-    begun-end rest r h k = both line 0 word rest r (here, omega (arith, w .within)) k
+    pub begun-end : length word ≤ i → After line 0 word (At (length word))
+    begun-end h = (here, omega (arith, w .within))
       where
         here : (more : List ℕ) → numberAfter (word ++ more) line ≡ numberAfter more (drop (length word) line)
         here more =
@@ -101,13 +107,62 @@ too-short (b ∷ line) (a ∷ word) more h = go (eqb a b) (too-short line word m
     go true e = e
     go false e = refl
 
-pub begun-short : (line word rest : List ℕ) → length line < length word → After line 0 (word ++ rest) Nothing
-begun-short line word rest h more = rw (append-assoc word rest more) (too-short line word (rest ++ more) h)
+pub begun-short : (line word : List ℕ) → length line < length word → After line 0 word Nothing
+begun-short line word h more = too-short line word more h
 
--- A number behind a word, its tab and some numbers.
-pub behind-word : (line word : List ℕ) (at : ℕ) (more : List ℕ) → After line 0 (word ++ tab ∷ []) (At at)
-    → numberAfter (word ++ tab ∷ more) line ≡ numberAfter more (drop at line)
-behind-word line word at more h = ap (λ (l : List ℕ). numberAfter l line) (sym (append-assoc word (tab ∷ []) more)) ∙ h .0 more
+-- Indices one after the other.
+pub two-digits-at : (numbers : List ℕ) (i : ℕ) → TwoDigits numbers → i < length numbers → getD numbers i 0 < 100
+two-digits-at [] i t h = absurd (omega arith)
+two-digits-at (n ∷ numbers) zero t h = t .0
+two-digits-at (n ∷ numbers) (suc i) t h = two-digits-at numbers i (t .1) (omega arith)
 
-pub no-word : (line word more : List ℕ) → After line 0 (word ++ tab ∷ []) Nothing → numberAfter (word ++ tab ∷ more) line ≡ Malformed
-no-word line word more h = ap (λ (l : List ℕ). numberAfter l line) (sym (append-assoc word (tab ∷ []) more)) ∙ h more
+module _ (line : List ℕ) (at : ℕ) (numbers : List ℕ) where
+  -- The line has the first i of them, up to `end`.
+  abbrev pub Behind : ℕ → ℕ → Type 0
+  Behind i end = (i ≤ length numbers) × After line at (closed (take i numbers)) (At end)
+
+  pub behind-start : at ≤ length line → Behind 0 at
+  unfolding closed
+  behind-start h = (omega arith, (λ more. refl, h))
+
+  module _ {i end : ℕ} (w : Behind i end) (h : i < length numbers) where
+    pub behind-next : {next : ℕ} → After line end (cell (getD numbers i 0) tab) (At next) → Behind (i + 1) next
+    behind-next {next} k =
+        (omega arith, rw (closed-step numbers i h) at (both line at (closed (take i numbers)) (cell (getD numbers i 0) tab) (At next) (w .1) k))
+
+    pub behind-other : After line end (cell (getD numbers i 0) tab) Nothing → After line at (closed numbers) Nothing
+    behind-other k =
+        rw (closed-parts numbers (i + 1)) at
+        (none-first line at (closed (take (i + 1) numbers)) (closed (drop (i + 1) numbers))
+        (rw (closed-step numbers i h) at (both line at (closed (take i numbers)) (cell (getD numbers i 0) tab) Nothing (w .1) k)))
+
+  pub behind-all : {i end : ℕ} → Behind i end → length numbers ≤ i → After line at (closed numbers) (At end)
+  behind-all {i} w h = rw (take-all i numbers h) at (w .1)
+
+-- The indices of a place that the arrays have room for.
+pub room-digits : (p : Place) → Room p → TwoDigits (headOf p .indices)
+unfolding Room headOf
+room-digits (PartitionEnabled t) h = (omega arith, tt)
+room-digits (Mbec t) h = (omega arith, tt)
+room-digits (Config t) h = (omega arith, tt)
+room-digits (Active v) h = (omega arith, tt)
+room-digits (Shared v r) h = (omega arith, (omega arith, tt))
+room-digits (Register v l r) h = (omega arith, (omega arith, (omega arith, tt)))
+room-digits (Tpr v l) h = (omega arith, (omega arith, tt))
+room-digits (Pending v l i) h = (omega arith, (omega arith, (omega arith, tt)))
+room-digits (Enabled v l) h = (omega arith, (omega arith, tt))
+room-digits (Secure v l k) h = (omega arith, (omega arith, (omega arith, tt)))
+room-digits (Reason v l) h = (omega arith, (omega arith, tt))
+room-digits (From v l) h = (omega arith, (omega arith, tt))
+room-digits (Rax v l) h = (omega arith, (omega arith, tt))
+room-digits (Rcx v l) h = (omega arith, (omega arith, tt))
+room-digits (Word p) h = (omega arith, tt)
+room-digits (Mask p t) h = (omega arith, (omega arith, tt))
+
+-- The number behind the front of a record.
+pub no-front : (line : List ℕ) (p : Place) → After line 0 (front p) Nothing → numberAfter (front p) line ≡ Malformed
+no-front line p h = rw (append-nil (front p)) at (h [])
+
+pub behind-front : (line : List ℕ) (p : Place) (end : ℕ) → After line 0 (front p) (At end) → numberAfter (front p) line ≡ readDecimal (drop end line)
+unfolding numberAfter
+behind-front line p end h = rw (append-nil (front p)) at (h .0 [])

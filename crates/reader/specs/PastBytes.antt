@@ -1,8 +1,8 @@
 -- What the functions that compare the beginning of a line promise: the number that follows is read behind the bytes that the line must
 -- have. Assumes nothing.
-use mathlib.Core.List.{List, _++_}
+use mathlib.Core.List.{List, [], _∷_, _++_}
 use mathlib.Core.Path.{_≡_}
-use Prim.Native.Nat.{ℕ, _≤_}
+use Prim.Native.Nat.{ℕ, _≤_, _<_}
 use lib.ListN.{drop, length}
 use Rattle.decimal.specs.declared.Number.{Number}
 use Rattle.decimal.specs.declared.Number.the-variants.{Malformed}
@@ -15,3 +15,8 @@ abbrev pub After : List ℕ → ℕ → List ℕ → Past → Type 0
 After line at bytes Nothing = (more : List ℕ) → numberAfter (bytes ++ more) (drop at line) ≡ Malformed
 After line at bytes (At end) =
     ((more : List ℕ) → numberAfter (bytes ++ more) (drop at line) ≡ numberAfter more (drop end line)) × (end ≤ length line)
+
+-- Indices have one digit or two.
+abbrev pub TwoDigits : List ℕ → Type 0
+TwoDigits [] = Unit {0}
+TwoDigits (n ∷ more) = (n < 100) × TwoDigits more

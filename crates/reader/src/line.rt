@@ -1,17 +1,19 @@
 // What a line says as the record of a place (02, request 2): it begins with the record's word and indices, each with a tab behind it,
 // byte for byte, and ends with a number as 01 writes them.
 ghost use mathlib.Core.Bool.{false, true};
-ghost use mathlib.Core.List.{[], _∷_, _++_};
+ghost use mathlib.Core.List.{[], _∷_};
 ghost use mathlib.Core.Path.{_≡_};
 ghost use Prim.Native.Nat.{_<_, _≤_};
-ghost use lib.ListN.{drop, length};
-ghost use Rattle.records.specs.Reading.{lineValue, numberAfter, taken};
-ghost use Rattle.records.specs.RecordTexts.{closed};
-ghost use Rattle.reader.specs.PastBytes.{After};
+ghost use lib.ListN.{length};
+ghost use Rattle.records.specs.Reading.{isFlag, lineValue, taken};
+ghost use Rattle.records.specs.RecordTexts.{closed, front};
+ghost use Rattle.reader.specs.PastBytes.{After, TwoDigits};
 ghost use Rattle.reader.specs.Slots.{Room};
 ghost use Rattle.script.specs.LineForms.{tab};
 ghost use Rattle.script.specs.ListingLine.{cell};
 use decimal::Number;
+use records::head::indices_of;
+use records::head::word_of;
 use records::place::Place;
 
 // Where the bytes behind those that a line must have begin.
@@ -57,9 +59,9 @@ fn past_index(line: &[u8], at: usize, index: u64) -> Past
     past_last(line, next, b'0' + (index % 10) as u8)
 }
 
-// The place behind a word and a tab at the beginning of the line.
+// The place behind a word at the beginning of the line.
 fn past_word(line: &[u8], word: &[u8]) -> Past
-    ensures { λ r. ⌜ After (now (line .entry)) 0 (now (word .entry) ++ tab ∷ []) r ⌝ }
+    ensures { λ r. ⌜ After (now (line .entry)) 0 (now (word .entry)) r ⌝ }
 {
     let end = word.len();
     if line.len() < end {
@@ -72,69 +74,66 @@ fn past_word(line: &[u8], word: &[u8]) -> Past
         }
         i += 1;
     }
-    past_byte(line, end, b'\t')
+    Past::At(end)
 }
 
-// The number behind one index, behind two and behind three.
-fn after_one(line: &[u8], at: usize, a: u64) -> Number
-    requires { ⌜ a < 100 ⌝ }
-    ensures { λ r. ⌜ r ≡ numberAfter (closed (a ∷ [])) (drop at (now (line .entry))) ⌝ }
+// The place behind indices, each with its tab.
+fn past_indices(line: &[u8], at: usize, indices: &[u64]) -> Past
+    requires { ⌜ at ≤ length (now line) ⌝ }
+    requires { ⌜ TwoDigits (now indices) ⌝ }
+    ensures { λ r. ⌜ After (now (line .entry)) at (closed (now (indices .entry))) r ⌝ }
 {
-    let Past::At(next) = past_index(line, at, a) else {
-        return Number::Malformed;
-    };
-    decimal::read(&line[next..])
+    let mut end = at;
+    let mut i: usize = 0;
+    while i < indices.len() {
+        let Past::At(next) = past_index(line, end, indices[i]) else {
+            return Past::Nothing;
+        };
+        end = next;
+        i += 1;
+    }
+    Past::At(end)
 }
 
-fn after_two(line: &[u8], at: usize, a: u64, b: u64) -> Number
-    requires { ⌜ (a < 100) × (b < 100) ⌝ }
-    ensures { λ r. ⌜ r ≡ numberAfter (closed (a ∷ b ∷ [])) (drop at (now (line .entry))) ⌝ }
+// The place behind the word and the indices of a place's record.
+fn past_front(line: &[u8], place: Place) -> Past
+    requires { ⌜ Room place ⌝ }
+    ensures { λ r. ⌜ After (now (line .entry)) 0 (front place) r ⌝ }
 {
-    let Past::At(next) = past_index(line, at, a) else {
-        return Number::Malformed;
+    let word = word_of(place);
+    let bytes = word.0;
+    let size = word.1;
+    let Past::At(next) = past_word(line, &bytes[..size]) else {
+        return Past::Nothing;
     };
-    after_one(line, next, b)
+    let indices = indices_of(place);
+    let numbers = indices.numbers;
+    let count = indices.count;
+    past_indices(line, next, &numbers[..count])
 }
 
-fn after_three(line: &[u8], at: usize, a: u64, b: u64, c: u64) -> Number
-    requires { ⌜ (a < 100) × (b < 100) × (c < 100) ⌝ }
-    ensures { λ r. ⌜ r ≡ numberAfter (closed (a ∷ b ∷ c ∷ [])) (drop at (now (line .entry))) ⌝ }
+// Does the quantity at a place say yes or no?
+fn is_flag(place: Place) -> bool
+    ensures { λ r. ⌜ r ≡ isFlag place ⌝ }
 {
-    let Past::At(next) = past_index(line, at, a) else {
-        return Number::Malformed;
-    };
-    after_two(line, next, b, c)
-}
-
-// The number of a record with one index, with two and with three.
-fn one_index(line: &[u8], word: &[u8], a: u64) -> Number
-    requires { ⌜ a < 100 ⌝ }
-    ensures { λ r. ⌜ r ≡ numberAfter (now (word .entry) ++ tab ∷ closed (a ∷ [])) (now (line .entry)) ⌝ }
-{
-    let Past::At(next) = past_word(line, word) else {
-        return Number::Malformed;
-    };
-    after_one(line, next, a)
-}
-
-fn two_indices(line: &[u8], word: &[u8], a: u64, b: u64) -> Number
-    requires { ⌜ (a < 100) × (b < 100) ⌝ }
-    ensures { λ r. ⌜ r ≡ numberAfter (now (word .entry) ++ tab ∷ closed (a ∷ b ∷ [])) (now (line .entry)) ⌝ }
-{
-    let Past::At(next) = past_word(line, word) else {
-        return Number::Malformed;
-    };
-    after_two(line, next, a, b)
-}
-
-fn three_indices(line: &[u8], word: &[u8], a: u64, b: u64, c: u64) -> Number
-    requires { ⌜ (a < 100) × (b < 100) × (c < 100) ⌝ }
-    ensures { λ r. ⌜ r ≡ numberAfter (now (word .entry) ++ tab ∷ closed (a ∷ b ∷ c ∷ [])) (now (line .entry)) ⌝ }
-{
-    let Past::At(next) = past_word(line, word) else {
-        return Number::Malformed;
-    };
-    after_three(line, next, a, b, c)
+    match place {
+        Place::PartitionEnabled(_) => true,
+        Place::Mbec(_) => true,
+        Place::Config(_) => false,
+        Place::Active(_) => false,
+        Place::Shared(_, _) => false,
+        Place::Register(_, _, _) => false,
+        Place::Tpr(_, _) => false,
+        Place::Pending(_, _, _) => false,
+        Place::Enabled(_, _) => true,
+        Place::Secure(_, _, _) => false,
+        Place::Reason(_, _) => false,
+        Place::From(_, _) => false,
+        Place::Rax(_, _) => false,
+        Place::Rcx(_, _) => false,
+        Place::Word(_) => false,
+        Place::Mask(_, _) => false,
+    }
 }
 
 // A number that says yes or no is 0 or 1.
@@ -155,22 +154,12 @@ pub(crate) fn line_value(place: Place, line: &[u8]) -> Number
     requires { ⌜ Room place ⌝ }
     ensures { λ r. ⌜ taken false r ≡ lineValue place (now (line .entry)) ⌝ }
 {
-    match place {
-        Place::PartitionEnabled(t) => flag(one_index(line, b"enabled", t.0)),
-        Place::Mbec(t) => flag(one_index(line, b"mbec", t.0)),
-        Place::Config(t) => one_index(line, b"config", t.0),
-        Place::Active(v) => one_index(line, b"active", v.0),
-        Place::Shared(v, r) => two_indices(line, b"shared", v.0, r),
-        Place::Register(v, l, r) => three_indices(line, b"reg", v.0, l.0, r),
-        Place::Tpr(v, l) => two_indices(line, b"tpr", v.0, l.0),
-        Place::Pending(v, l, i) => three_indices(line, b"pend", v.0, l.0, i),
-        Place::Enabled(v, l) => flag(two_indices(line, b"enabled", v.0, l.0)),
-        Place::Secure(v, l, k) => three_indices(line, b"secure", v.0, l.0, k.0),
-        Place::Reason(v, l) => two_indices(line, b"reason", v.0, l.0),
-        Place::From(v, l) => two_indices(line, b"from", v.0, l.0),
-        Place::Rax(v, l) => two_indices(line, b"rax", v.0, l.0),
-        Place::Rcx(v, l) => two_indices(line, b"rcx", v.0, l.0),
-        Place::Word(p) => one_index(line, b"word", p.0),
-        Place::Mask(p, t) => two_indices(line, b"mask", p.0, t.0),
+    let Past::At(end) = past_front(line, place) else {
+        return Number::Malformed;
+    };
+    let number = decimal::read(&line[end..]);
+    if is_flag(place) {
+        return flag(number);
     }
+    number
 }

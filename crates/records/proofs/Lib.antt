@@ -9,4 +9,5 @@ pub mod Walks  -- the walk goes along the sequence
 pub mod NumberAfter  -- tests of the number after another
 pub mod ReadingBack  -- the theorems: reading what was written, only such texts, same bytes
 pub mod SameBytes  -- the same of bytes
+pub mod ClosedNumbers  -- numbers that have a tab each, and the front of a record
 pub mod Lengths  -- how long the text is

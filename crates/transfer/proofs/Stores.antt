@@ -1,6 +1,6 @@
 -- Laws of texts that are written into a buffer one after the other. Assumes nothing.
 use mathlib.Core.Path.{_≡_, sym, ap, _∙_}
-use mathlib.Core.List.{List, [], _∷_, _++_, append-assoc, append-nil}
+use mathlib.Core.List.{List, [], _∷_, _++_}
 use Prim.Native.Nat.{ℕ, zero, suc, _+_, _≤_, _<_}
 use native.Mathlib.Numerals.{add-one}
 use native.Mathlib.Omega.{arith}
@@ -26,17 +26,7 @@ put-step out at word i h =
     ∙ sets-append (take i word) out at (getD word i 0 ∷ [])
     ∙ ap (sets out at) (sym (take-suc word i 0 h) ∙ ap (λ (j : ℕ). take j word) (sym (add-one i)))
 
--- One number more with its tab.
-closed-append : (numbers : List ℕ) (n : ℕ) → closed (numbers ++ n ∷ []) ≡ closed numbers ++ cell n tab
-unfolding closed
-closed-append [] n = append-nil (cell n tab)
-closed-append (m ∷ numbers) n = ap (λ (l : List ℕ). cell m tab ++ l) (closed-append numbers n) ∙ sym (append-assoc (cell m tab) (closed numbers) (cell n tab))
-
-pub closed-step : (numbers : List ℕ) (i : ℕ) → i < length numbers → closed (take i numbers) ++ cell (getD numbers i 0) tab ≡ closed (take (i + 1) numbers)
-closed-step numbers i h =
-    sym (closed-append (take i numbers) (getD numbers i 0)) ∙ ap closed (sym (take-suc numbers i 0 h) ∙ ap (λ (j : ℕ). take j numbers) (sym (add-one i)))
-
--- It has room where all have.
+-- One number more with its tab has room where all have.
 pub closed-room : (numbers : List ℕ) (i : ℕ) → i < length numbers
     → length (closed (take i numbers)) + length (cell (getD numbers i 0) tab) ≤ length (closed numbers)
 unfolding closed

@@ -1,11 +1,9 @@
 -- `line::past_word` meets its contract. Assumes nothing.
 use Prim.Native.Nat.{_-_}
-use mathlib.Core.List.{[], _∷_}
 use mathlib.Core.Path.{_≡_}
 use borrow.Author.Needs.{needs}
 use native.Mathlib.Omega.{arith}
 use lib.ListN.{length}
-use Rattle.script.specs.LineForms.{tab}
 use Rattle.reader.proofs.Beginnings.{Begun, begun-end, begun-next, begun-other, begun-short, begun-start}
 use Rattle.reader.proofs.line.past_word.Statement.{statement}
 use Rattle.reader.proofs.line.past_word.Tie as tie
@@ -17,7 +15,7 @@ abbrev μ-loop : tie.MeasureT-loop
 μ-loop line word end i₀ i = length word - i
 
 returns : tie.Need-returns Inv-loop μ-loop
-returns c = let a = c .before .before .before .args in begun-short (a .line .now) (a .word .now) (tab ∷ []) (c .if1 .taken)
+returns c = let a = c .before .args in begun-short (a .line .now) (a .word .now) (c .if1 .taken)
 
 loop-holds : tie.Need-loop-holds Inv-loop μ-loop
 loop-holds c = begun-start (c .if1 .left)
@@ -25,7 +23,7 @@ loop-holds c = begun-start (c .if1 .left)
 returns-2 : tie.Need-returns-2 Inv-loop μ-loop
 returns-2 c =
     let l = c .before .before .before in
-    begun-other (l .before .loop .inv) (tab ∷ []) (l .loop-test .taken) (c .if2 .taken)
+    begun-other (l .before .loop .inv) (l .loop-test .taken) (c .if2 .taken)
 
 loop-again : tie.Need-loop-again Inv-loop μ-loop
 loop-again c =
@@ -33,12 +31,10 @@ loop-again c =
     begun-next (l .before .loop .inv) (l .loop-test .taken) (c .if2 .left)
 
 returns-3 : tie.Need-returns-3 Inv-loop μ-loop
-returns-3 c =
-    let l = c .before in
-    begun-end (l .before .loop .inv) (tab ∷ []) (c .past-byte .result) (l .loop-test .left) (c .past-byte .ensures)
+returns-3 c = begun-end (c .before .loop .inv) (c .loop-test .left)
 
 pub past-word-spec : {M : Type 1} → statement M
 past-word-spec =
     tie.close
     (tie.spec Inv-loop μ-loop
-    returns loop-holds (λ c. omega arith) (λ c. omega arith) returns-2 (λ c. omega arith) (λ c. omega arith) loop-again (λ c κs. search needs) returns-3)
+    returns loop-holds (λ c. omega arith) (λ c. omega arith) returns-2 (λ c. omega arith) (λ c. omega arith) loop-again returns-3)

@@ -8,7 +8,8 @@ use Rattle.records.specs.RecordTexts.{closed}
 use Rattle.script.proofs.Cells.{Written, written-length, written-next}
 use Rattle.script.specs.LineForms.{tab}
 use Rattle.script.specs.ListingLine.{cell}
-use Rattle.transfer.proofs.Stores.{closed-room, closed-step}
+use Rattle.records.proofs.ClosedNumbers.{closed-step}
+use Rattle.transfer.proofs.Stores.{closed-room}
 use Rattle.transfer.proofs.record_text.write_closed.Statement.{statement}
 use Rattle.transfer.proofs.record_text.write_closed.Tie as tie
 

@@ -1,11 +1,11 @@
 -- `record_text::write_front` meets its contract: the word with its tab, and then the indices. Assumes nothing.
 use mathlib.Core.Path.{_≡_, sym}
-use mathlib.Core.List.{[], _∷_, _++_, append-assoc}
+use mathlib.Core.List.{_++_}
 use borrow.Author.Needs.{needs}
 use lib.ListN.{take}
 use lib.Seq.{length-take-le}
-use Rattle.records.specs.RecordTexts.{closed, front, headOf}
-use Rattle.script.specs.LineForms.{tab}
+use Rattle.records.specs.RecordTexts.{closed, front}
+use Rattle.records.proofs.ClosedNumbers.{front-parts}
 use Rattle.transfer.proofs.record_text.write_front.Statement.{statement}
 use Rattle.transfer.proofs.record_text.write_front.Tie as tie
 
@@ -13,10 +13,7 @@ use Rattle.transfer.proofs.record_text.write_front.Tie as tie
 both : (k : tie.After-indices-of)
     → take (k .before .before .word-of .result .1) (k .before .before .word-of .result .0) ++ closed (take (k .indices-of .result .count) (k .indices-of .result .numbers))
     ≡ front (k .before .before .before .before .args .place)
-unfolding front
-both k =
-    let place = k .before .before .before .before .args .place in
-    rw (k .before .before .word-of .ensures .0, k .indices-of .ensures .0) (append-assoc (headOf place .word) (tab ∷ []) (closed (headOf place .indices)))
+both k = rw (k .before .before .word-of .ensures .0, k .indices-of .ensures .0) (front-parts (k .before .before .before .before .args .place))
 
 array-share-prefix-bytes : tie.Need-array-share-prefix-bytes
 array-share-prefix-bytes c = c .before .before .before .before .word-of .ensures .1
