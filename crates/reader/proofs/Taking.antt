@@ -28,7 +28,7 @@ use Rattle.records.specs.Values.{stateFrom}
 use Rattle.records.specs.Walk.{nextOf, toLevel}
 use Rattle.records.proofs.RecordLines.{no-some}
 use Rattle.records.proofs.Sequence.{Run, Small, places-run}
-use Rattle.records.proofs.Walks.{Walk, places-walk}
+use Rattle.records.proofs.Walks.{Walk, dueRank, not-ended, places-walk, rank-rises, run-below}
 use Rattle.reader.specs.Received.{Few, Passes, blankParts, stateOf, wanted}
 use Rattle.reader.specs.Slots.{Parts, Room, stored}
 use Rattle.reader.proofs.Blank.{stands-blank}
@@ -113,11 +113,6 @@ value-flag p line x h f = go (numberAfter (front p) line) (rw f at h)
     go Malformed k = no-some k
     go (Value y) k = small y (leb y 1) refl k
 
--- The rank of what is due.
-abbrev pub dueRank : Setup → Next → ℕ
-dueRank c (At p) = rank p
-dueRank c Done = endRank c
-
 pub record Reads (c : Setup) (input : List ℕ) (from : ℕ) (m : Parts) (at : ℕ) (due : Next) : Type 0 where
   pub few : Small c
   pub quantities : Place → ℕ
@@ -131,19 +126,6 @@ pub record Reads (c : Setup) (input : List ℕ) (from : ℕ) (m : Parts) (at : �
   pub count : ℕ
   pub counts : count + length rest ≡ length (places c)
   pub passes : Passes (drop from input) count (at - from)
-
-never : {A : Type 0} {p : Place} → At p ≡ Done → A
-never h = absurd (let z : _≡_ {A = ℕ} 0 1 = cc in omega arith)
-
-rank-rises : (c : Setup) (p : Place) (d : Next) (ps : List Place) → Walk c d ps Done → Run c (suc (rank p)) ps (endRank c) → rank p < dueRank c d
-rank-rises c p (At q) [] w r = never w
-rank-rises c p Done [] w r = r
-rank-rises c p (At q) (x ∷ ps) w r = let e : q ≡ x = (let k = w .0 in cc) in rw e (r .0)
-rank-rises c p Done (x ∷ ps) w r = never (sym (w .0))
-
-run-below : (c : Setup) (ps : List Place) (lo hi : ℕ) → Run c lo ps hi → lo ≤ hi
-run-below c [] lo hi r = r
-run-below c (p ∷ ps) lo hi (a, h, r) = omega (arith, run-below c ps (suc (rank p)) hi r)
 
 -- The record that is due.
 pub record Due (c : Setup) (input : List ℕ) (from : ℕ) (m : Parts) (at : ℕ) (p : Place) : Type 0 where
@@ -163,7 +145,7 @@ reads-at {c} {input} {from} {m} {at} {p} s = go (s .rest) (s .walk) (s .run) (s 
     go : (rest : List Place) → Walk c (At p) rest Done → Run c (s .lo) rest (endRank c)
         → finished c (s .quantities) rest (taking rest (lines (drop at input))) ≡ wanted c input from
         → s .count + length rest ≡ length (places c) → Due c input from m at p
-    go [] w r e n = never w
+    go [] w r e n = not-ended w
     go (q ∷ ps) w r e n =
         let same : q ≡ p = (let k = w .0 in cc) in
         let run : Run c (suc (rank p)) ps (endRank c) = rw same at (r .2) in
@@ -214,7 +196,7 @@ reads-done {c} {input} {from} {m} {at} s = go (s .rest) (s .walk) (s .whole) (s 
   where
     go : (rest : List Place) → Walk c Done rest Done → finished c (s .quantities) rest (taking rest (lines (drop at input))) ≡ wanted c input from
         → s .count + length rest ≡ length (places c) → Read c input from m at
-    go (q ∷ ps) w e n = never (sym (w .0))
+    go (q ∷ ps) w e n = not-ended (sym (w .0))
     go [] w e n = record {
       gives = sym e ∙ rw (stands-state (s .stands) (s .few));
       place = s .place;

@@ -12,9 +12,9 @@ use Rattle.model.specs.declared.quantity.Processor.{Processor}
 use Rattle.model.specs.State.{level, top}
 use Rattle.script.specs.EventForms.{processor, page}
 use Rattle.model.specs.declared.machine.Setup.{Setup}
-use Rattle.records.specs.Places.{Place, Shared, Register, Tpr, Pending, Enabled, Secure, Reason, From, Rax, Rcx, Mask, rising, privateCount, sharedCount, levelPlaces, processorPlaces, upperPlaces, contextPlaces, pagePlaces, ofLevels, ofProcessors, ofContexts, ofPages, places}
+use Rattle.records.specs.Places.{Place, Shared, Register, Tpr, Pending, Enabled, Secure, Reason, From, Rax, Rcx, Mask, rising, privateCount, sharedCount, levelPlaces, processorPlaces, upperPlaces, contextPlaces, pagePlaces, ofLevels, ofProcessors, ofContexts, ofPages, places, rank, endRank}
 use Rattle.records.specs.Walk.{Next, At, Done, toPage, toMask, toContexts, toContext, toRegister, toPending, toSecure, toProcessor, toShared, toLevel, nextOf, firstDue}
-use Rattle.records.proofs.Sequence.{counts, count-bounds}
+use Rattle.records.proofs.Sequence.{Run, counts, count-bounds}
 
 -- The walk from a goes over these places and comes to b.
 abbrev pub Walk : Setup → Next → List Place → Next → Type 0
@@ -140,3 +140,22 @@ module _ (c : Setup) where
       (walk-append (toLevel c 1) (toContexts c 0) (toPage c 0) (ofLevels c ++ ofProcessors c) (ofContexts c)
       (walk-append (toLevel c 1) (toProcessor c 0) (toContexts c 0) (ofLevels c) (ofProcessors c) levels-walk processors-walk) contexts-walk)
       pages-walk
+
+-- The walk does not end at a place.
+pub not-ended : {A : Type 0} {p : Place} → At p ≡ Done → A
+not-ended h = absurd (let z : _≡_ {A = ℕ} 0 1 = cc in omega arith)
+
+-- The rank of what is due. It rises along the walk, and stays below the end.
+abbrev pub dueRank : Setup → Next → ℕ
+dueRank c (At p) = rank p
+dueRank c Done = endRank c
+
+pub rank-rises : (c : Setup) (p : Place) (d : Next) (ps : List Place) → Walk c d ps Done → Run c (suc (rank p)) ps (endRank c) → rank p < dueRank c d
+rank-rises c p (At q) [] w r = not-ended w
+rank-rises c p Done [] w r = r
+rank-rises c p (At q) (x ∷ ps) w r = let e : q ≡ x = (let k = w .0 in cc) in rw e (r .0)
+rank-rises c p Done (x ∷ ps) w r = not-ended (sym (w .0))
+
+pub run-below : (c : Setup) (ps : List Place) (lo hi : ℕ) → Run c lo ps hi → lo ≤ hi
+run-below c [] lo hi r = r
+run-below c (p ∷ ps) lo hi (a, h, r) = omega (arith, run-below c ps (suc (rank p)) hi r)

@@ -21,7 +21,7 @@ use Rattle.records.specs.RecordTexts.{closed, front, recordLine, firstOf, lines
 use Rattle.records.specs.Values.{number, setupAt, valueAt}
 use Rattle.records.specs.Walk.{firstDue, nextOf}
 use Rattle.records.proofs.Sequence.{Small, Run, places-run}
-use Rattle.records.proofs.Walks.{Walk, places-walk}
+use Rattle.records.proofs.Walks.{Walk, dueRank, not-ended, places-walk, rank-rises, run-below}
 use Rattle.transfer.specs.Sent.{recordText, firstRecordText, textAt, placesText}
 
 -- A record with its line feed.
@@ -59,11 +59,6 @@ first-is c =
     sym (append-assoc (bytes "vsm" ++ tab ∷ closed (firstNumbers c)) (decimal x) (lineFeed ∷ []))
     ∙ ap (λ (l : List ℕ). (bytes "vsm" ++ l) ++ lineFeed ∷ []) (parted-is (firstNumbers c) x)
 
--- The rank of what is due.
-abbrev pub dueRank : Setup → Next → ℕ
-dueRank c (At p) = rank p
-dueRank c Done = endRank c
-
 -- What is written, the places that are left, and where the walk stands: at the first of them.
 pub record Left (c : Setup) (g : Place → ℕ) (out₀ : List ℕ) (start : ℕ) (out : List ℕ) (at : ℕ) (due : Next) : Type 0 where
   pub done : List ℕ
@@ -73,9 +68,6 @@ pub record Left (c : Setup) (g : Place → ℕ) (out₀ : List ℕ) (start : ℕ
   pub run : Run c lo rest (endRank c)
   pub whole : done ++ textAt g rest ≡ textAt g (places c)
   pub wrote : Written out₀ start done at out
-
-never : {A : Type 0} {p : Place} → At p ≡ Done → A
-never h = absurd (let z : _≡_ {A = ℕ} 0 1 = cc in omega arith)
 
 module _ (c : Setup) (g : Place → ℕ) (out₀ : List ℕ) (start : ℕ) where
   pub left-start : Small c → Left c g out₀ start out₀ start (firstDue c)
@@ -97,21 +89,11 @@ module _ (c : Setup) (g : Place → ℕ) (out₀ : List ℕ) (start : ℕ) where
     pub rises : rank p < dueRank c (nextOf c p)
     pub goes : (after : ℕ) (last : List ℕ) → Written out at (recordText p (g p)) after last → Left c g out₀ start last after (nextOf c p)
 
-  run-below : (ps : List Place) (lo hi : ℕ) → Run c lo ps hi → lo ≤ hi
-  run-below [] lo hi r = r
-  run-below (p ∷ ps) lo hi (a, h, r) = omega (arith, run-below ps (suc (rank p)) hi r)
-
-  rank-rises : (p : Place) (d : Next) (ps : List Place) → Walk c d ps Done → Run c (suc (rank p)) ps (endRank c) → rank p < dueRank c d
-  rank-rises p (At q) [] w r = never w
-  rank-rises p Done [] w r = r
-  rank-rises p (At q) (x ∷ ps) w r = let e : q ≡ x = (let k = w .0 in cc) in rw e (r .0)
-  rank-rises p Done (x ∷ ps) w r = never (sym (w .0))
-
   pub left-at : (out : List ℕ) (at : ℕ) (p : Place) → Left c g out₀ start out at (At p) → Due out at p
   left-at out at p l = go (l .rest) (l .walk) (l .run) (l .whole)
     where
       go : (rest : List Place) → Walk c (At p) rest Done → Run c (l .lo) rest (endRank c) → l .done ++ textAt g rest ≡ textAt g (places c) → Due out at p
-      go [] w r e = never w
+      go [] w r e = not-ended w
       go (q ∷ ps) w r e =
           let same : q ≡ p = (let k = w .0 in cc) in
           let run : Run c (suc (rank p)) ps (endRank c) = rw same at (r .2) in
@@ -128,8 +110,8 @@ module _ (c : Setup) (g : Place → ℕ) (out₀ : List ℕ) (start : ℕ) where
               length-append (l .done) (recordText p (g p) ++ textAt g ps),
               length-append (recordText p (g p)) (textAt g ps),
             );
-            below = omega (arith, run-below ps (suc (rank p)) (endRank c) run);
-            rises = rank-rises p (nextOf c p) ps walk run;
+            below = omega (arith, run-below c ps (suc (rank p)) (endRank c) run);
+            rises = rank-rises c p (nextOf c p) ps walk run;
             goes = λ after last w. record {
               done = l .done ++ recordText p (g p);
               rest = ps;
@@ -149,4 +131,4 @@ module _ (c : Setup) (g : Place → ℕ) (out₀ : List ℕ) (start : ℕ) where
       go [] w e =
           let all : l .done ≡ textAt g (places c) = sym (append-nil (l .done)) ∙ (unfold textAt in e) in
           rw (← all) (l .wrote)
-      go (q ∷ ps) w e = never (sym (w .0))
+      go (q ∷ ps) w e = not-ended (sym (w .0))

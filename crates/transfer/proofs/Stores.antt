@@ -6,16 +6,11 @@ use native.Mathlib.Numerals.{add-one}
 use native.Mathlib.Omega.{arith}
 use lib.ListN.{length, length-append, getD, set, take}
 use lib.Seq.{length-take-le, sets, take-suc}
-use Rattle.decimal.proofs.Digits.{text-length}
 use Rattle.records.specs.RecordTexts.{closed}
 use Rattle.script.proofs.Cells.{Written, cell-length, written-length}
 use Rattle.script.proofs.StoredTexts.{sets-append}
 use Rattle.script.specs.LineForms.{tab}
 use Rattle.script.specs.ListingLine.{cell}
-
--- A cell has a digit and the byte that closes it.
-pub cell-size : (n closing : ℕ) → 2 ≤ length (cell n closing)
-cell-size n closing = omega (arith, cell-length n closing, text-length n)
 
 -- One byte more of a word.
 pub put-step : (out : List ℕ) (at : ℕ) (word : List ℕ) (i : ℕ) → i < length word

@@ -35,17 +35,12 @@ pub(crate) fn put(out: &mut [u8], at: usize, bytes: &[u8]) -> usize
     at + i
 }
 
-// Writes a number and the byte `closing`. Most numbers have one digit.
+// Writes a number and the byte `closing`.
 fn write_cell(out: &mut [u8], at: usize, value: u64, closing: u8) -> usize
     requires { ⌜ at + length (cell value closing) ≤ length (now out) ⌝ }
     ensures { λ r. ⌜ r ≡ at + length (cell value closing) ⌝ }
     ensures { λ _. ⌜ now (out .exit) ≡ sets (now (out .entry)) at (cell value closing) ⌝ }
 {
-    if value < 10 {
-        out[at] = b'0' + value as u8;
-        out[at + 1] = closing;
-        return at + 2;
-    }
     let end = decimal::write(out, at, value);
     out[end] = closing;
     end + 1

@@ -2,7 +2,7 @@
 -- Assumes nothing.
 use mathlib.Core.Bool.{false}
 use mathlib.Core.Path.{_≡_, sym, ap, _∙_}
-use Prim.Native.Nat.{_-_, _<_}
+use Prim.Native.Nat.{_-_, _<_, _≤_}
 use borrow.Author.Needs.{needs}
 use native.Mathlib.Omega.{arith}
 use lib.ListN.{length}
@@ -10,8 +10,9 @@ use Rattle.chunk.proofs.ChunkLines.{end-within}
 use Rattle.decimal.specs.declared.Number.{Number}
 use Rattle.records.specs.Places.{endRank}
 use Rattle.records.specs.Reading.{taken}
+use Rattle.records.proofs.Walks.{dueRank}
 use Rattle.reader.specs.Slots.{partsOf}
-use Rattle.reader.proofs.Taking.{Reads, dueRank, reads-at, reads-done, reads-start}
+use Rattle.reader.proofs.Taking.{Reads, reads-at, reads-done, reads-start}
 use Rattle.reader.proofs.places.read_places.Statement.{statement}
 use Rattle.reader.proofs.places.read_places.Tie as tie
 
@@ -35,26 +36,23 @@ returns c =
 returns-2 : tie.Need-returns-2 Inv-loop μ-loop
 returns-2 c = (reads-at (rw (c .before .before .due .given .1) at (c .before .before .before .before .loop .inv))) .missing (c .if1 .taken)
 
-sub-line-value : tie.Need-sub-line-value Inv-loop μ-loop
-sub-line-value c =
+-- The line that is due lies within the input.
+line-within : (c : tie.After-line-end Inv-loop μ-loop)
+    → (c .before .before .before .before .before .loop .at ≤ c .line-end .result) × (c .line-end .result ≤ length (c .before .before .before .before .before .before .before .before .args .input .now))
+line-within c =
     let at = c .before .before .before .before .before .loop .at in
     let input = c .before .before .before .before .before .before .before .before .args .input .now in
     let low : at < length input = c .before .if1 .left in
     omega (arith, c .line-end .ensures, end-within input at (omega arith))
+
+sub-line-value : tie.Need-sub-line-value Inv-loop μ-loop
+sub-line-value c = omega (arith, line-within c)
 
 part-line-value-start : tie.Need-part-line-value-start Inv-loop μ-loop
-part-line-value-start c =
-    let at = c .before .before .before .before .before .loop .at in
-    let input = c .before .before .before .before .before .before .before .before .args .input .now in
-    let low : at < length input = c .before .if1 .left in
-    omega (arith, c .line-end .ensures, end-within input at (omega arith))
+part-line-value-start c = omega (arith, line-within c)
 
 part-line-value-end : tie.Need-part-line-value-end Inv-loop μ-loop
-part-line-value-end c =
-    let at = c .before .before .before .before .before .loop .at in
-    let input = c .before .before .before .before .before .before .before .before .args .input .now in
-    let low : at < length input = c .before .if1 .left in
-    omega (arith, c .line-end .ensures, end-within input at (omega arith))
+part-line-value-end c = omega (arith, line-within c)
 
 line-value-requires : tie.Need-line-value-requires Inv-loop μ-loop
 line-value-requires c κs = (reads-at (rw (c .before .before .before .before .due .given .1) at (c .before .before .before .before .before .before .loop .inv))) .room

@@ -10,10 +10,11 @@ use Rattle.records.specs.Places.{endRank}
 use Rattle.records.specs.Values.{valueAt}
 use Rattle.records.proofs.Sequence.{Small}
 use Rattle.records.proofs.PlainStates.{small, words-length}
+use Rattle.records.proofs.Walks.{dueRank}
 use Rattle.script.proofs.Cells.{written-length}
 use Rattle.state.specs.Lent.{lent, machineOf}
 use Rattle.transfer.specs.Sent.{placesText}
-use Rattle.transfer.proofs.Left.{Left, Due, dueRank, left-start, left-at, left-done}
+use Rattle.transfer.proofs.Left.{Left, Due, left-start, left-at, left-done}
 use Rattle.transfer.proofs.write.write_places.Statement.{statement}
 use Rattle.transfer.proofs.write.write_places.Tie as tie
 
