@@ -1,16 +1,15 @@
 -- The parts before any quantity is stored stand for no quantity. Assumes nothing.
 use mathlib.Core.Bool.{Bool, true, false, cond, _&&_}
-use mathlib.Core.List.{List, [], _∷_}
+use mathlib.Core.List.{[]}
 use mathlib.Core.Path.{_≡_, refl, sym, ap, _∙_}
 use Prim.Native.Nat.{ℕ, _+_, _*_, _<_}
 use native.Mathlib.Omega.{arith}
 use lib.Dec.{ltb}
-use lib.ListN.{getD, getD-replicate, length, replicate, set}
+use lib.ListN.{getD, getD-replicate, length, replicate}
 use lib.Seq.{getD-set-other}
 use borrow.Author.Tests.{lt-ltb}
 use Rattle.word.specs.Field.{bit}
 use Rattle.model.specs.declared.machine.Setup.{Setup}
-use Rattle.model.specs.State.{level}
 use Rattle.model.proofs.Four.{below-four}
 use Rattle.script.specs.EventForms.{processor}
 use Rattle.records.specs.declared.place.Place.{Place}
@@ -19,7 +18,7 @@ use Rattle.records.specs.Places.{has, known}
 use Rattle.records.specs.Reading.{only}
 use Rattle.records.specs.Values.{number}
 use Rattle.reader.specs.Received.{blankParts, blankRecord, blankRow}
-use Rattle.reader.specs.Slots.{Room, inSlot, keptAt, ofLevels, ofRecord, oneBit, slotOf, wordAt}
+use Rattle.reader.specs.Slots.{Room, keptAt, slotOf}
 use Rattle.reader.proofs.Stands.{Stands}
 
 number-low : (b : Bool) → number b < 16

@@ -1,11 +1,11 @@
 -- Laws of the lines that are passed: how many bytes they take. Assumes nothing.
 use mathlib.Core.Bool.{Bool, true, false}
-use mathlib.Core.List.{List, [], _∷_, _++_, append-assoc, append-nil}
+use mathlib.Core.List.{List, [], _∷_, _++_, append-assoc}
 use mathlib.Core.Path.{_≡_, refl, sym, ap, _∙_}
-use Prim.Native.Nat.{ℕ, zero, suc, _+_, _-_, _≤_, _<_, min}
+use Prim.Native.Nat.{ℕ, _+_, _-_, _≤_, _<_, min}
 use native.Mathlib.Omega.{arith}
 use lib.Dec.{ltb}
-use lib.ListN.{drop, drop-of-length-le, getD, length, length-append, length-drop, length-take, take}
+use lib.ListN.{drop, drop-of-length-le, length, length-append, length-drop, length-take, take}
 use lib.Seq.{drop-cons, drop-drop, take-all}
 use borrow.Author.Tests.{ltb-false, ltb-true}
 use Rattle.chunk.specs.Chunk.{lineEnd}

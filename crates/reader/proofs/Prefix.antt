@@ -3,7 +3,7 @@ use mathlib.Core.Bool.{Bool, true, false, cond}
 use mathlib.Core.List.{List, [], _∷_, _++_, append-assoc}
 use mathlib.Core.Option.{Option, none, some}
 use mathlib.Core.Path.{_≡_, refl, sym, ap, _∙_}
-use Prim.Native.Nat.{ℕ, suc, _+_, _≤_, _<_}
+use Prim.Native.Nat.{ℕ, _+_, _≤_}
 use native.Mathlib.Omega.{arith}
 use lib.ListN.{drop, length, length-append, take, take-append-drop}
 use lib.Seq.{drop-at, take-append-le, take-at}
@@ -20,8 +20,8 @@ use Rattle.script.specs.Texts.{firstLineOf}
 use Rattle.state.specs.Lent.{setupOf}
 use Rattle.records.specs.declared.place.Place.{Place}
 use Rattle.records.specs.Places.{places}
-use Rattle.records.specs.Reading.{Passed, Taken, firstRecord, followed, formedOnly, fromFirst, fromTaken, lineValue, passedOn, stateOfValues, taking}
-use Rattle.records.specs.RecordTexts.{ended, firstOf, linesAt, longestText, recordLines, recordsText}
+use Rattle.records.specs.Reading.{Passed, Taken, firstRecord, followed, fromFirst, fromTaken, lineValue, passedOn, stateOfValues, taking}
+use Rattle.records.specs.RecordTexts.{ended, firstOf, linesAt, recordLines, recordsText}
 use Rattle.records.specs.Values.{setupAt, stateFrom, valueAt}
 use Rattle.records.proofs.SameBytes.{only-records, text-lines}
 use Rattle.records.proofs.Lengths.{short-text}

@@ -2,7 +2,7 @@
 use mathlib.Core.Bool.{Bool, true, false, cond}
 use mathlib.Core.List.{List, [], _∷_}
 use mathlib.Core.Option.{none}
-use mathlib.Core.Path.{_≡_, refl, sym, ap, _∙_}
+use mathlib.Core.Path.{_≡_, refl}
 use Prim.Native.Nat.{ℕ, suc, _+_, _≤_, _<_}
 use native.Mathlib.Numerals.{add-one}
 use native.Mathlib.Omega.{arith}
@@ -15,7 +15,6 @@ use Rattle.model.specs.declared.answer.Refusal.the-variants.{LineTooLong, Unkno
 use Rattle.script.specs.Bytes.{bytes, same}
 use Rattle.script.specs.First.{lineFirst, vsm}
 use Rattle.script.specs.LineForms.{among, fields, inForm, inFront, said, saidIn, tab}
-use Rattle.script.specs.declared.Start.{Start}
 use Rattle.script.specs.declared.Start.the-variants as start
 
 front-length : (byte : ℕ) (more : List (List ℕ)) → 1 ≤ length more → length (inFront byte more) ≡ length more

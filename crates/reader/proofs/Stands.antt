@@ -4,12 +4,11 @@ use mathlib.Core.List.{List, [], _∷_}
 use mathlib.Core.Path.{_≡_, refl, sym, ap, _∙_}
 use Prim.Native.Nat.{ℕ, zero, suc, _+_, _-_, _*_, _/_, _%_, _≤_, _<_}
 use native.Mathlib.Omega.{arith}
-use lib.Dec.{eqb, ltb}
+use lib.Dec.{eqb}
 use lib.ListN.{drop, getD, length, length-drop, length-take, take}
 use lib.Seq.{getD-drop, getD-take}
 use borrow.Author.Tests.{eq-eqb, eqb-false, eqb-true, ne-eqb}
 use Rattle.word.specs.Field.{bit}
-use Rattle.model.specs.declared.machine.Context.{Context}
 use Rattle.model.specs.declared.machine.Setup.{Setup}
 use Rattle.model.specs.declared.quantity.Level.{Level}
 use Rattle.model.specs.State.{level, levelSet}
@@ -21,14 +20,14 @@ use Rattle.script.specs.EventForms.{page, processor}
 use Rattle.state.specs.Lent.{lent, machineOf}
 use Rattle.records.specs.declared.place.Place.{Place}
 use Rattle.records.specs.declared.place.Place.the-variants.{PartitionEnabled, Mbec, Config, Active, Shared, Register, Tpr, Pending, Enabled, Secure, Reason, From, Rax, Rcx, Word, Mask}
-use Rattle.records.specs.Places.{endRank, has, known, places, rank}
+use Rattle.records.specs.Places.{endRank, has, known, rank}
 use Rattle.records.specs.Reading.{isFlag, only}
 use Rattle.records.specs.Values.{contextFrom, number, partitionFrom, setFrom, stateFrom, table, vpFrom}
 use Rattle.records.proofs.Limits.{limits}
 use Rattle.records.proofs.Sequence.{In, Run, Small, here, member, places-run, run-above, there}
 use Rattle.records.proofs.Tables.{list-is}
 use Rattle.records.proofs.PlainStates.{flag, only-has, only-not}
-use Rattle.reader.specs.Slots.{Array, Parts, Room, Slot, inSlot, keptAt, ofLevels, ofMasks, ofRecord, ofWords, oneBit, slotOf, stored, whole, wordAt}
+use Rattle.reader.specs.Slots.{Array, Parts, Room, Slot, inSlot, keptAt, ofLevels, ofRecord, oneBit, slotOf, stored, whole, wordAt}
 use Rattle.reader.proofs.StoredPlaces.{Sizes, flagged, kept-here, kept-other, place-right, set-low, sizes-slot, slot-other}
 
 -- The arrays have room for each place that a state has.

@@ -1,14 +1,14 @@
 -- A quantity stored at a place is the one that is kept there, and every other place keeps its own: a slot tells its place, so different
 -- places lie in different slots. Assumes nothing.
 use mathlib.Core.Bool.{Bool, true, false, cond}
-use mathlib.Core.List.{List, []}
+use mathlib.Core.List.{[]}
 use mathlib.Core.Path.{_≡_, refl, sym, ap, _∙_}
-use Prim.Native.Nat.{ℕ, zero, suc, _+_, _-_, _*_, _/_, _%_, _≤_, _<_, _^_}
+use Prim.Native.Nat.{ℕ, _+_, _-_, _*_, _/_, _%_, _≤_, _<_, _^_}
 use native.Mathlib.Omega.{arith}
 use lib.Dec.{eqb, ltb}
 use lib.ListN.{getD, length, length-set, set}
 use lib.Seq.{getD-set-same}
-use borrow.Author.Tests.{eq-eqb, le-ltb, lt-ltb, ne-eqb}
+use borrow.Author.Tests.{le-ltb, lt-ltb, ne-eqb}
 use Rattle.word.specs.Field.{bit, put}
 use Rattle.word.proofs.FieldLaws.{bit-put-here, bit-put-other, put-lt}
 use Rattle.model.specs.declared.quantity.Level.{Level}
@@ -21,7 +21,7 @@ use Rattle.records.specs.declared.place.Place.the-variants.{PartitionEnabled, M
 use Rattle.records.specs.Reading.{isFlag}
 use Rattle.records.specs.Values.{number}
 use Rattle.records.proofs.Made.{flag-back}
-use Rattle.reader.specs.Slots.{Parts, partsOf, Array, ofLevels, ofMasks, ofWords, ofRecord, wordAt, withWord, Slot, whole, oneBit, slotOf, inSlot, withSlot, keptAt, stored, Room}
+use Rattle.reader.specs.Slots.{Parts, Array, ofLevels, ofMasks, ofWords, ofRecord, wordAt, withWord, Slot, whole, oneBit, slotOf, inSlot, withSlot, keptAt, stored, Room}
 
 -- What holds of a word, and of the one that is stored in its place, holds after the store.
 word-cases : (P : ℕ → Type 0) (a b : Array) (i j x : ℕ) (m : Parts) → P (wordAt b j m) → (b ≡ a → j ≡ i → P x) → P (wordAt b j (withWord a i x m))

@@ -1,22 +1,20 @@
 -- What is kept while the records are read along the walk: the parts stand for the quantities so far, and what is left of the lines and
 -- of the places gives what the whole gives. Assumes nothing.
 use mathlib.Core.Bool.{Bool, true, false, cond}
-use mathlib.Core.List.{List, [], _∷_, _++_}
+use mathlib.Core.List.{List, [], _∷_}
 use mathlib.Core.Option.{Option, none, some}
 use mathlib.Core.Path.{_≡_, refl, sym, ap, _∙_, fun-ext}
-use Prim.Native.Nat.{ℕ, zero, suc, _+_, _-_, _*_, _≤_, _<_, min}
+use Prim.Native.Nat.{ℕ, zero, suc, _+_, _-_, _≤_, _<_, min}
 use native.Mathlib.Omega.{arith}
-use lib.Dec.{eqb, leb, ltb}
-use lib.ListN.{drop, drop-of-length-le, getD, getD-replicate, length, length-drop, length-replicate, length-set, replicate, set, take}
-use lib.Seq.{drop-drop, getD-set-other, getD-set-same}
-use borrow.Author.Tests.{eq-eqb, eqb-false, eqb-true, leb-true, ne-eqb}
+use lib.Dec.{eqb, leb}
+use lib.ListN.{drop, drop-of-length-le, length, take}
+use lib.Seq.{drop-drop}
+use borrow.Author.Tests.{eqb-true, leb-true, ne-eqb}
 use Rattle.chunk.specs.Chunk.{lineEnd}
 use Rattle.chunk.proofs.ChunkLines.{end-within}
 use Rattle.decimal.specs.declared.Number.{Number}
 use Rattle.decimal.specs.declared.Number.the-variants.{Malformed, Value}
 use Rattle.model.specs.declared.machine.Setup.{Setup}
-use Rattle.model.proofs.Four.{below-four}
-use Rattle.script.specs.EventForms.{processor}
 use Rattle.script.specs.Records.{lines, linesIn}
 use Rattle.records.specs.declared.place.Next.{Next}
 use Rattle.records.specs.declared.place.Next.the-variants.{At, Done}

@@ -1,9 +1,7 @@
 -- Where code keeps the quantity at each place, in the parts of a machine that it lends: as a word, or as a bit of a word that holds a
 -- set of levels. The layouts are those of crates `partition` and `processor`. Assumes nothing.
-use mathlib.Core.Bool.{Bool, false}
 use mathlib.Core.List.{List, []}
 use Prim.Native.Nat.{ℕ, _+_, _-_, _*_, _<_, _≤_}
-use lib.Dec.{eqb, ltb}
 use lib.ListN.{getD, set}
 use Rattle.word.specs.Field.{bit, put}
 use Rattle.model.specs.declared.quantity.Level.{Level}

@@ -7,7 +7,7 @@ use native.Mathlib.Omega.{arith}
 use lib.ListN.{length, length-append, getD, set, take}
 use lib.Seq.{length-take-le, sets, take-suc}
 use Rattle.records.specs.RecordTexts.{closed}
-use Rattle.script.proofs.Cells.{Written, cell-length, written-length}
+use Rattle.script.proofs.Cells.{Written, written-length}
 use Rattle.script.proofs.StoredTexts.{sets-append}
 use Rattle.script.specs.LineForms.{tab}
 use Rattle.script.specs.ListingLine.{cell}

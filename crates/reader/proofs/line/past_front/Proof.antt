@@ -1,5 +1,5 @@
 -- `line::past_front` meets its contract: the word with its tab, and then the indices. Assumes nothing.
-use mathlib.Core.Path.{_≡_, sym}
+use mathlib.Core.Path.{sym}
 use mathlib.Core.List.{[], _∷_, _++_}
 use borrow.Author.Needs.{needs}
 use lib.Seq.{length-take-le}

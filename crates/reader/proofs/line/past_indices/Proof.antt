@@ -1,6 +1,5 @@
 -- `line::past_indices` meets its contract. The loop's invariant: `Behind` of proofs/Beginnings.antt. Assumes nothing.
 use Prim.Native.Nat.{_-_}
-use mathlib.Core.Path.{_≡_}
 use borrow.Author.Needs.{needs}
 use native.Mathlib.Omega.{arith}
 use lib.ListN.{length}

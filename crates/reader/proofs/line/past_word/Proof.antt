@@ -1,7 +1,5 @@
 -- `line::past_word` meets its contract. Assumes nothing.
 use Prim.Native.Nat.{_-_}
-use mathlib.Core.Path.{_≡_}
-use borrow.Author.Needs.{needs}
 use native.Mathlib.Omega.{arith}
 use lib.ListN.{length}
 use Rattle.reader.proofs.Beginnings.{Begun, begun-end, begun-next, begun-other, begun-short, begun-start}

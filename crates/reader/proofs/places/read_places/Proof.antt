@@ -1,7 +1,7 @@
 -- `places::read_places` meets its contract. The loop's invariant: `Reads` of proofs/Taking.antt. The measure is what is left of the ranks.
 -- Assumes nothing.
 use mathlib.Core.Bool.{false}
-use mathlib.Core.Path.{_≡_, sym, ap, _∙_}
+use mathlib.Core.Path.{sym, ap, _∙_}
 use Prim.Native.Nat.{_-_, _<_, _≤_}
 use borrow.Author.Needs.{needs}
 use native.Mathlib.Omega.{arith}

@@ -1,5 +1,4 @@
 -- `store::set_enabled` meets its contract: the bit of the level. Assumes nothing.
-use mathlib.Core.Path.{_≡_}
 use Prim.Native.Nat.{_<_, _^_}
 use borrow.Author.Needs.{needs}
 use native.Mathlib.Omega.{arith}
