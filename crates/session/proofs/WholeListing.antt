@@ -200,17 +200,16 @@ pub listing-consumed : Consumed
 unfolding consumed listing lines
 listing-consumed script = first-finished (linesIn script .complete) (linesIn script .rest)
 
--- However a fresh session is fed, what is written and what `finish` then adds is the listing of the input.
-pub reached-listing : (input text : List ℕ) (p : Progress) → Reached (first []) input text p → text ++ lastText p ≡ listing input
-reached-listing input text p w =
-    ap (λ (l : List ℕ). text ++ l) (sym (finished-none p))
-    ∙ sym (finished-after text (consumed p []))
+-- However a session is fed, what is written and what `finish` then adds is what it writes of the input.
+pub reached-finished : {p q : Progress} {text : List ℕ} (input : List ℕ) → Reached p input text q → text ++ lastText q ≡ finished (consumed p input)
+reached-finished {p} {q} {text} input w =
+    ap (λ (l : List ℕ). text ++ l) (sym (finished-none q))
+    ∙ sym (finished-after text (consumed q []))
     ∙ ap finished (sym (w .then []))
-    ∙ ap (λ (l : List ℕ). finished (consumed (first []) l)) (append-nil input)
-    ∙ listing-consumed input
+    ∙ ap (λ (l : List ℕ). finished (consumed p l)) (append-nil input)
 
 pub whole : Whole
-whole run = let c = calls (first []) run in reached-listing (c .input) (c .output) (c .progress) (cut run (first []))
+whole run = let c = calls (first []) run in reached-finished (c .input) (cut run (first [])) ∙ listing-consumed (c .input)
 
 -- Where the longest record has room, something of a chunk is used.
 room-at-most : (p : Progress) → roomFor p ≤ longestRecord

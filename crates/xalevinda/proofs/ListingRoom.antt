@@ -1,4 +1,4 @@
--- How much room a listing takes at most: 84 bytes for each line that ends, and for one more. Assumes nothing.
+-- How much room the text of an input takes at most: 84 bytes for each line that ends, and for one more. Assumes nothing.
 use mathlib.Core.List.{List, [], _∷_, _++_}
 use mathlib.Core.Option.{Option, none, some}
 use mathlib.Core.Path.{_≡_, refl, ap}
@@ -9,6 +9,12 @@ use native.Mathlib.Omega.{arith}
 use lib.ListN.{drop, getD, length, length-append}
 use lib.Seq.{drop-cons, drop-length}
 use Rattle.listing.specs.Listing.{Answered, answered, firstDone, laterRecords, listing, listingFrom, listingOf, numberAfter, recordOf, stateBy}
+use Rattle.passing.specs.Passing.{resumed, resumedFrom}
+use Rattle.passing.specs.PassingSessions.{opened, openedBy, savedText}
+use Rattle.passing.proofs.SavedSessions.{sent-at-most}
+use Rattle.records.proofs.SameBytes.{only-records}
+use Rattle.records.specs.Reading.{Passed, passedOn}
+use Rattle.records.specs.RecordTexts.{longestText, recordLines}
 use Rattle.script.specs.Records.{inFront, lastLine, lines, linesIn}
 use Rattle.model.specs.Answers.{numberOf, valueOf}
 use Rattle.model.specs.State.{State}
@@ -16,7 +22,11 @@ use Rattle.script.proofs.Cells.{line-at-most}
 use Rattle.script.specs.EventForms.{lineEvent}
 use Rattle.script.specs.First.{lineFirst}
 use Rattle.script.specs.ListingLine.{lineFeed}
+use Rattle.session.specs.Session.{Progress, first, later, stopped}
 use Rattle.xalevinda.specs.Exports.{sizeOf}
+use Rattle.xalevinda.specs.StoredListing.{textOf}
+use Rattle.xalevinda.specs.declared.written.Begins.{Begins}
+use Rattle.xalevinda.specs.declared.written.Begins.the-variants as begins
 
 -- A record has at most 84 bytes.
 record-at-most : (number : ℕ) (a : Answered) → length (recordOf number a) ≤ 84
@@ -41,15 +51,53 @@ last-at-most : (rest : List ℕ) → length (lastLine rest) ≤ 1
 last-at-most [] = omega arith
 last-at-most (byte ∷ rest) = omega arith
 
-listing-at-most : (script : List ℕ) → length (listing script) ≤ 84 * suc (length (linesIn script .complete))
-unfolding listing lines
-listing-at-most script =
-    let l = linesIn script in
-    of-at-most (l .complete ++ lastLine (l .rest)) (length (l .complete)) (omega (arith, length-append (l .complete) (lastLine (l .rest)), last-at-most (l .rest)))
+-- An input has a line for every line feed, and one more at most.
+lines-at-most : (input : List ℕ) → length (lines input) ≤ suc (length (linesIn input .complete))
+unfolding lines
+lines-at-most input =
+    let l = linesIn input in omega (arith, length-append (l .complete) (lastLine (l .rest)), last-at-most (l .rest))
 
-pub fits-at-once : (script : List ℕ) (size feeds room : ℕ) → size ≡ sizeOf (listing script) → feeds ≡ length (linesIn script .complete)
-    → feeds < room / 84 → size ≤ room
-fits-at-once script size feeds room e f h = omega (arith, listing-at-most script)
+listing-at-most : (script : List ℕ) → length (listing script) ≤ 84 * suc (length (linesIn script .complete))
+unfolding listing
+listing-at-most script = of-at-most (lines script) (length (linesIn script .complete)) (lines-at-most script)
+
+-- What is resumed: the records of a state have a line at least, so line 0 is paid for.
+some-lines : (s : State) → 1 ≤ length (recordLines s)
+unfolding recordLines
+some-lines s = omega arith
+
+resumed-at-most : (input : List ℕ) → length (resumed input) ≤ 84 * suc (length (linesIn input .complete))
+unfolding resumed
+resumed-at-most input = go (passedOn (lines input)) refl
+  where
+    go : (o : Option Passed) → passedOn (lines input) ≡ o → length (resumedFrom o) ≤ 84 * suc (length (linesIn input .complete))
+    go none e = omega (arith, line-at-most 0 1 0 0)
+    go (some r) e =
+        let these = ap length (only-records input r e .these) in
+        omega (arith, from-at-most (some (r .state)) (r .rest), these, length-append (recordLines (r .state)) (r .rest), some-lines (r .state), lines-at-most input)
+
+text-at-most : (begins : Begins) (input : List ℕ) → length (textOf begins input) ≤ 84 * suc (length (linesIn input .complete))
+text-at-most begins.FirstLine input = listing-at-most input
+text-at-most begins.Records input = resumed-at-most input
+
+pub fits-at-once : (begins : Begins) (input : List ℕ) (size feeds room : ℕ) → size ≡ sizeOf (textOf begins input)
+    → feeds ≡ length (linesIn input .complete) → feeds < room / 84 → size ≤ room
+fits-at-once begins input size feeds room e f h = omega (arith, text-at-most begins input)
+
+-- Line 0 of what is resumed.
+pub opened-at-most : (input : List ℕ) → length (opened input .text) ≤ 84
+unfolding opened
+opened-at-most input = go (passedOn (lines input))
+  where
+    go : (o : Option Passed) → length (openedBy input o .text) ≤ 84
+    go none = line-at-most 0 1 0 0
+    go (some r) = line-at-most 0 0 0 0
+
+-- What is saved.
+pub saved-at-most : (p : Progress) → length (savedText p) ≤ longestText
+saved-at-most (first line) = omega (arith, line-at-most 0 1 0 0)
+saved-at-most (later number s line) = sent-at-most s
+saved-at-most stopped = omega (arith, line-at-most 0 1 0 0)
 
 -- Of a script, so many line feeds were counted up to a place.
 abbrev pub Counted : List ℕ → ℕ → ℕ → Type 0

@@ -11,7 +11,7 @@ use lib.Seq.{drop-drop, drop-length, length-sets, sets, sets-eq, take-length}
 use Rattle.decimal.proofs.TextRoom.{with-no-room, with-room}
 use Rattle.decimal.specs.Write.{hasRoom, withText}
 use Rattle.script.proofs.StoredTexts.{sets-append}
-use Rattle.session.proofs.Callers.{part-whole}
+use Rattle.session.proofs.Callers.{front, part-whole}
 use Rattle.xalevinda.specs.Exports.{atMostWord, sizeOf}
 use Rattle.xalevinda.specs.StoredListing.{Stored}
 
@@ -37,30 +37,51 @@ with-length buffer at text = go (hasRoom buffer at text)
     go true = length-sets buffer at text
     go false = refl
 
--- Nothing yet, and one piece more.
-pub stored-none : (out : List ℕ) → Stored [] 0 out out
-stored-none out = record { counted = refl; same-length = refl; stored = λ h. refl }
+-- A text that a function has written at the start of its own buffer is taken from there.
+pub own-text : {wrote : ℕ} {last : List ℕ} (buffer text : List ℕ) → wrote ≡ length text → last ≡ sets buffer 0 text → wrote ≤ length last
+    → take wrote last ≡ text
+own-text {wrote} buffer text writes e within = rw e (front buffer text wrote writes (rw e at within))
 
-pub stored-more : {text : List ℕ} {size : ℕ} {before out : List ℕ} → Stored text size before out → length before < 2 ^ 63
-    → (piece : List ℕ) {size′ : ℕ} {out′ : List ℕ} → size′ ≡ atMostWord (size + length piece) → out′ ≡ withText out size piece
-    → Stored (text ++ piece) size′ before out′
-stored-more {text} {size} {before} {out} w h piece {size′} {out′} counted put = record {
-  counted = omega (arith, counted, w .counted, length-append text piece);
-  same-length = ap length put ∙ with-length out size piece ∙ w .same-length;
+-- Nothing yet; one text and then another; and a text that was put at once.
+pub stored-none : (at : ℕ) (out : List ℕ) → at < 2 ^ 64 → Stored [] at at out out
+stored-none at out h = record { counted = omega arith; same-length = refl; stored = λ fits. refl }
+
+pub stored-then : {text more : List ℕ} {at size size′ : ℕ} {before out after : List ℕ} → Stored text at size before out
+    → Stored more size size′ out after → length before < 2 ^ 63 → Stored (text ++ more) at size′ before after
+stored-then {text} {more} {at} {size} {size′} {before} {out} {after} w v h = record {
+  counted = omega (arith, v .counted, w .counted, length-append text more);
+  same-length = v .same-length ∙ w .same-length;
   stored = λ fits.
-      let both : length text + length piece ≤ length before = omega (arith, length-append text piece) in
-      let place : size ≡ 0 + length text = omega (arith, w .counted) in
-      put
-      ∙ with-room out size piece (omega (arith, w .same-length))
-      ∙ rw (w .stored (omega arith), place) (sets-append text before 0 piece);
+      let both : at + length text + length more ≤ length before = omega (arith, length-append text more) in
+      let place : size ≡ at + length text = omega (arith, w .counted) in
+      v .stored (omega (arith, w .same-length))
+      ∙ rw (w .stored (omega arith), place) (sets-append text before at more);
 }
 
--- All of a text was stored where as many bytes as it has fit.
-pub stored-whole : {text : List ℕ} {size count : ℕ} {before after : List ℕ} → Stored text size before after → length before < 2 ^ 63
+pub stored-put : {text : List ℕ} {at size : ℕ} {before after : List ℕ} → size ≡ atMostWord (at + length text) → after ≡ withText before at text
+    → Stored text at size before after
+stored-put {text} {at} {size} {before} {after} counted put = record {
+  counted = counted;
+  same-length = ap length put ∙ with-length before at text;
+  stored = λ fits. put ∙ with-room before at text fits;
+}
+
+-- One piece more.
+pub stored-more : {text : List ℕ} {at size : ℕ} {before out : List ℕ} → Stored text at size before out → length before < 2 ^ 63
+    → (piece : List ℕ) {size′ : ℕ} {out′ : List ℕ} → size′ ≡ atMostWord (size + length piece) → out′ ≡ withText out size piece
+    → Stored (text ++ piece) at size′ before out′
+stored-more w h piece counted put = stored-then w (stored-put counted put) h
+
+-- How many bytes a text has that was stored from the start on.
+pub stored-size : {text : List ℕ} {size : ℕ} {before after : List ℕ} → Stored text 0 size before after → size ≡ sizeOf text
+stored-size w = omega (arith, w .counted)
+
+-- All of it was stored where as many bytes as it has fit.
+pub stored-whole : {text : List ℕ} {size count : ℕ} {before after : List ℕ} → Stored text 0 size before after → length before < 2 ^ 63
     → count ≡ sizeOf text → count ≤ length before → after ≡ withText before 0 text
 stored-whole {text} {size} {count} {before} w h counted fits =
-    let room : length text ≤ length before = omega arith in
-    w .stored room ∙ sym (with-room before 0 text (omega arith))
+    let room : 0 + length text ≤ length before = omega arith in
+    w .stored room ∙ sym (with-room before 0 text room)
 
 -- Nothing was stored where they do not fit.
 pub stored-nothing : (text : List ℕ) (count : ℕ) (before : List ℕ) → count ≡ sizeOf text → length before < count → before ≡ withText before 0 text

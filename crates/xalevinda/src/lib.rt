@@ -3,10 +3,12 @@
 ghost use mathlib.Core.Path.{_≡_};
 ghost use Rattle.decimal.specs.Write.{withText};
 ghost use Rattle.listing.specs.Listing.{listing};
+ghost use Rattle.passing.specs.Passing.{resumed, saved};
 ghost use Rattle.word.specs.RegisterFields.{fieldOf, withField};
 ghost use Rattle.xalevinda.specs.Exports.{sizeOf};
+use written::Begins;
 
-mod written; // a listing written into a buffer
+mod written; // a text written into a buffer
 
 // The listing of a whole script (01, "Script and listing"), written at the start of `out`: all of it, or nothing where it has no room.
 // Returns how many bytes the listing has, or the largest number where it has more. The script is run once to count them, and once more
@@ -16,15 +18,32 @@ pub extern "C" fn xalevinda_listing(script: &[u8], out: &mut [u8]) -> usize
     ensures size { λ r. ⌜ r ≡ sizeOf (listing (now (script .entry))) ⌝ }
     ensures out { λ _. ⌜ now (out .exit) ≡ withText (now (out .entry)) 0 (listing (now (script .entry))) ⌝ }
 {
-    if written::line_feeds(script) < out.len() / session::LONGEST_RECORD {
-        return written::write(script, out);
-    }
-    let mut nothing = [0u8; 0];
-    let size = written::write(script, &mut nothing);
-    if size <= out.len() {
-        written::write(script, out);
-    }
+    written::whole(Begins::FirstLine, script, out)
+}
+
+// What saving after a script writes (02, request 2): the records of the state after it, or the refusal line where its first line is bad. All of
+// it at the start of `out`, or nothing where it has no room. Returns how many bytes it has: fewer than 64 KB. The script is run once.
+#[no_mangle]
+pub extern "C" fn xalevinda_save(script: &[u8], out: &mut [u8]) -> usize
+    ensures size { λ r. ⌜ r ≡ sizeOf (saved (now (script .entry))) ⌝ }
+    ensures out { λ _. ⌜ now (out .exit) ≡ withText (now (out .entry)) 0 (saved (now (script .entry))) ⌝ }
+{
+    let mut text = written::piece();
+    let start = session::fresh();
+    let after = passing::consume(start, script);
+    let size = passing::save(after, &mut text);
+    written::put(out, 0, &text[..size]);
     size
+}
+
+// What resuming writes (02, request 2) of an input: the records of a state, and then a script without first line. The answer to the records
+// is line 0. It is written, counted and run as for `xalevinda_listing`.
+#[no_mangle]
+pub extern "C" fn xalevinda_resume(input: &[u8], out: &mut [u8]) -> usize
+    ensures size { λ r. ⌜ r ≡ sizeOf (resumed (now (input .entry))) ⌝ }
+    ensures out { λ _. ⌜ now (out .exit) ≡ withText (now (out .entry)) 0 (resumed (now (input .entry))) ⌝ }
+{
+    written::whole(Begins::Records, input, out)
 }
 
 // The value of a field of a register's word. Registers and their used fields are numbered from 0 in the order of 001; any other number
