@@ -41,7 +41,7 @@ returns c =
     let line = own-text _ (f .text) (e .1 .1 .0) (e .1 .1 .1 .0) (e .1 .1 .1 .1 .wrote-within) in
     let zero : Stored (f .text) 0 (began .«open» .result .wrote) (start .args .out .now) (put .put .last .0) = stored-put counted (rw line at (put .put .ensures)) in
     let rest : Stored (finished (consumed (f .progress) (drop (f .used) input))) (began .«open» .result .wrote) (wrote .write .result) (put .put .last .0) (wrote .write .last .1 .1 .0) =
-    rw (e .0, part-whole input (began .«open» .result .used), e .1 .0) at (wrote .write .ensures) in
+    rw (← e .0, ← e .1 .0, ← part-whole input (began .«open» .result .used)) (wrote .write .ensures) in
     rw (← both input) (stored-then zero rest (bounded start))
 
 pub write-resumed-spec : {M : Type 1} → statement M
