@@ -1,12 +1,15 @@
-//! Runs the stored scripts through the library and holds the listings to the stored ones, tries a few words of document 001, and
-//! times a long script: the file that the second argument names, or examples over and over. The first argument is the repository.
+//! Runs what is stored for the programs `bench`, `save` and `resume` through the library and holds what it writes to what is stored, cuts
+//! scripts in two with the machine passed on between the parts, tries a few words of document 001, and times a long script: the file that
+//! the second argument names, or examples over and over. The first argument is the repository.
 
 mod xalevinda;
 
 use std::path::Path;
 use std::time::Instant;
 use std::{env, fs, process};
-use xalevinda::{field, listing, listing_into, with_field, Register};
+use xalevinda::{
+    field, listing, listing_into, resume, resume_into, save, save_into, with_field, Register,
+};
 
 type Checked = Result<(), String>;
 
@@ -14,48 +17,73 @@ fn read(path: &Path) -> Result<Vec<u8>, String> {
     fs::read(path).map_err(|e| format!("{}: {e}", path.display()))
 }
 
-/// The listing is the stored one, also in a buffer of just its size; a buffer one byte shorter stays as it was.
-fn check_listing(name: &str, script: &[u8], stored: &[u8]) -> Checked {
+/// A function of the library, in its two forms, and the program that does the same.
+struct Function {
+    program: &'static str,
+    into: fn(&[u8], &mut [u8]) -> usize,
+    whole: fn(&[u8]) -> Vec<u8>,
+}
+
+const LISTING: Function = Function {
+    program: "bench",
+    into: listing_into,
+    whole: listing,
+};
+const SAVE: Function = Function {
+    program: "save",
+    into: save_into,
+    whole: save,
+};
+const RESUME: Function = Function {
+    program: "resume",
+    into: resume_into,
+    whole: resume,
+};
+
+/// What is written is the stored text, also in a buffer of just its size; a buffer one byte shorter stays as it was.
+fn check_text(name: &str, function: &Function, input: &[u8], stored: &[u8]) -> Checked {
+    let program = function.program;
     let mut out = vec![170; stored.len() + 1];
-    let size = listing_into(script, &mut out[..stored.len()]);
+    let size = (function.into)(input, &mut out[..stored.len()]);
     if size != stored.len()
         || out[..size] != *stored
         || out[size] != 170
-        || listing(script) != stored
+        || (function.whole)(input) != stored
     {
-        return Err(format!("{name}: the listing differs"));
+        return Err(format!("{program} {name}: what is written differs"));
     }
     let mut short = vec![170; size - 1];
-    if listing_into(script, &mut short) != size || short.iter().any(|&byte| byte != 170) {
-        return Err(format!("{name}: a buffer that is too short was changed"));
+    if (function.into)(input, &mut short) != size || short.iter().any(|&byte| byte != 170) {
+        return Err(format!(
+            "{program} {name}: a buffer that is too short was changed"
+        ));
     }
     Ok(())
 }
 
-/// The scripts that the bench is held to in the gate: `args` names them, `-` for `stdin`. `stdout` has each name and then the listing.
-fn check_cases(root: &Path) -> Result<usize, String> {
-    let names = String::from_utf8(read(&root.join("crates/bench/args"))?)
-        .map_err(|e| e.to_string())?;
-    let stored =
-        String::from_utf8(read(&root.join("crates/bench/stdout"))?).map_err(|e| e.to_string())?;
+/// The inputs that a program is held to in the gate: `args` names them, `-` for `stdin`. `stdout` has each name and then what is written.
+fn check_cases(root: &Path, function: &Function) -> Result<usize, String> {
+    let folder = root.join("crates").join(function.program);
+    let text = |name| String::from_utf8(read(&folder.join(name))?).map_err(|e| e.to_string());
+    let (names, stored) = (text("args")?, text("stdout")?);
     let mut rest = stored.as_str();
     for (i, name) in names.lines().enumerate() {
         rest = rest
             .strip_prefix(&format!("{name}\n"))
-            .ok_or(format!("{name}: no stored listing"))?;
+            .ok_or(format!("{name}: nothing is stored"))?;
         let end = match names.lines().nth(i + 1) {
             Some(next) => {
                 rest.find(&format!("\n{next}\n"))
-                    .ok_or(format!("{next}: no stored listing"))?
+                    .ok_or(format!("{next}: nothing is stored"))?
                     + 1
             }
             None => rest.len(),
         };
-        let script = match name {
-            "-" => root.join("crates/bench/stdin"),
-            _ => root.join("crates/bench/data").join(name),
+        let input = match name {
+            "-" => folder.join("stdin"),
+            _ => folder.join("data").join(name),
         };
-        check_listing(name, &read(&script)?, rest[..end].as_bytes())?;
+        check_text(name, function, &read(&input)?, rest[..end].as_bytes())?;
         rest = &rest[end..];
     }
     Ok(names.lines().count())
@@ -76,13 +104,44 @@ fn example(root: &Path, name: &str, kind: &str) -> Result<Vec<u8>, String> {
 
 fn check_examples(root: &Path) -> Checked {
     for name in EXAMPLES {
-        check_listing(
+        check_text(
             name,
+            &LISTING,
             &example(root, name, "script")?,
             &example(root, name, "listing")?,
         )?;
     }
     Ok(())
+}
+
+/// The lines of a listing without their numbers.
+fn answers(listing: &[u8]) -> Vec<&[u8]> {
+    listing
+        .split_inclusive(|&byte| byte == b'\n')
+        .map(|line| &line[line.iter().position(|&byte| byte == b'\t').unwrap_or(0)..])
+        .collect()
+}
+
+/// Each example is cut in two after every line. The machine is saved after the first part and resumed with the second: the answers are those
+/// of the script in one.
+fn check_passed_on(root: &Path) -> Result<usize, String> {
+    let mut count = 0;
+    for name in EXAMPLES {
+        let script = example(root, name, "script")?;
+        let whole = listing(&script);
+        let ends = script.iter().enumerate().filter(|(_, &byte)| byte == b'\n');
+        for (lines, (end, _)) in (1..).zip(ends) {
+            let (one, two) = script.split_at(end + 1);
+            let passed = [save(one), two.to_vec()].concat();
+            let listed = resume(&passed);
+            if answers(&listed)[1..] != answers(&whole)[lines..] {
+                return Err(format!("{name}: passed on after {lines} lines"));
+            }
+            check_text(name, &RESUME, &passed, &listed)?;
+            count += 1;
+        }
+    }
+    Ok(count)
 }
 
 /// Words and the values of their fields by the layouts of 001.
@@ -166,7 +225,7 @@ fn time(what: &str, lines: usize, call: impl FnOnce()) {
 /// own listing only.
 fn time_listings(script: &[u8]) -> Checked {
     let mut out = listing(script);
-    check_listing("the long script", script, &out)?;
+    check_text("the long script", &LISTING, script, &out)?;
     let lines = out.split(|&byte| byte == b'\n').count() - 1;
     time("run once", lines, || drop(listing(script)));
     time("run twice, to count and to write", lines, || {
@@ -182,12 +241,19 @@ fn run() -> Checked {
             .get(1)
             .ok_or("usage: xalevinda REPOSITORY [SCRIPT]")?,
     );
-    println!(
-        "{} stored scripts give their listings, and leave a buffer that is too short untouched",
-        check_cases(root)?
-    );
+    for function in [LISTING, SAVE, RESUME] {
+        println!(
+            "{} inputs of the program {} give what is stored, and leave a buffer that is too short untouched",
+            check_cases(root, &function)?,
+            function.program
+        );
+    }
     check_examples(root)?;
     println!("{} examples as well", EXAMPLES.len());
+    println!(
+        "{} times an example went on from its saved machine with the same answers",
+        check_passed_on(root)?
+    );
     println!(
         "{} fields of {} words are those of 001, read and replaced",
         check_fields()?,

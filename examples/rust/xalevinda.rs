@@ -19,6 +19,18 @@ mod exported {
             out: *mut u8,
             out_length: usize,
         ) -> usize;
+        pub fn xalevinda_save(
+            script: *const u8,
+            script_length: usize,
+            out: *mut u8,
+            out_length: usize,
+        ) -> usize;
+        pub fn xalevinda_resume(
+            input: *const u8,
+            input_length: usize,
+            out: *mut u8,
+            out_length: usize,
+        ) -> usize;
         pub fn xalevinda_field(register: u64, field: u64, word: u64) -> u64;
         pub fn xalevinda_with_field(register: u64, field: u64, word: u64, value: u64) -> u64;
     }
@@ -33,14 +45,45 @@ pub fn listing_into(script: &[u8], out: &mut [u8]) -> usize {
     }
 }
 
-/// The listing of a script.
-pub fn listing(script: &[u8]) -> Vec<u8> {
-    // A record has at most 84 bytes. With so many for every line the script is run once only.
-    let lines = script.iter().filter(|&&byte| byte == b'\n').count() + 1;
-    let mut out = vec![0; 84 * lines];
-    let size = listing_into(script, &mut out);
+/// Writes the records of the state after a script in the same way, or the refusal line where its first line is bad. The script is run once.
+pub fn save_into(script: &[u8], out: &mut [u8]) -> usize {
+    // SAFETY: as in `listing_into`.
+    unsafe { exported::xalevinda_save(script.as_ptr(), script.len(), out.as_mut_ptr(), out.len()) }
+}
+
+/// Writes the listing of an input that begins with records in the same way: they are line 0, and the script without first line that follows
+/// them goes on from line 1. It is run as often as in `listing_into`.
+pub fn resume_into(input: &[u8], out: &mut [u8]) -> usize {
+    // SAFETY: as in `listing_into`.
+    unsafe { exported::xalevinda_resume(input.as_ptr(), input.len(), out.as_mut_ptr(), out.len()) }
+}
+
+/// What a function writes that needs no more room than this.
+fn written(into: fn(&[u8], &mut [u8]) -> usize, input: &[u8], room: usize) -> Vec<u8> {
+    let mut out = vec![0; room];
+    let size = into(input, &mut out);
     out.truncate(size);
     out
+}
+
+/// The room for any listing of an input. A record has at most 84 bytes. With so many for every line the input is run once only.
+fn listing_room(input: &[u8]) -> usize {
+    84 * (input.iter().filter(|&&byte| byte == b'\n').count() + 1)
+}
+
+/// The listing of a script.
+pub fn listing(script: &[u8]) -> Vec<u8> {
+    written(listing_into, script, listing_room(script))
+}
+
+/// The records of the state after a script, which have at most 64 KB.
+pub fn save(script: &[u8]) -> Vec<u8> {
+    written(save_into, script, 65536)
+}
+
+/// The listing of an input that begins with records.
+pub fn resume(input: &[u8]) -> Vec<u8> {
+    written(resume_into, input, listing_room(input))
 }
 
 /// The value of a field, numbered from 0 in the order of 001 with reserved fields left out; 0 where the register has no such field.

@@ -1,5 +1,5 @@
--- The size that the exported `xalevinda_listing` answers (01, "Script and listing"). What the functions on a register's word answer
--- (001) is `fieldOf` and `withField` of crates/word/specs/RegisterFields.antt. Assumes nothing.
+-- The size that the exported functions answer which write a text: `listing` (01, "Script and listing"), `saved` or `resumed` (02, request 2).
+-- What the functions on a register's word answer (001) is `fieldOf` and `withField` of crates/word/specs/RegisterFields.antt. Assumes nothing.
 use mathlib.Core.List.{List}
 use Prim.Native.Nat.{ℕ, min, _-_, _^_}
 use lib.ListN.{length}
