@@ -1,0 +1,1 @@
+-- The definitions of why an access is allowed or denied (02, request 3). Assumes nothing.
