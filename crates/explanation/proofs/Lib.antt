@@ -1,0 +1,1 @@
+pub mod Explains  -- the explanation is that of the answer, and shows each denying level
