@@ -23,7 +23,7 @@ use Rattle.partition.specs.declared.access.Attempt.{Attempt}
 use Rattle.partition.specs.Denying.{denyingSet, lowestIn}
 use Rattle.promise.proofs.Outcomes.{the-enabled-on}
 use Rattle.promise.specs.Promise.{Runs, Acts}
-use Rattle.access_events.specs.Counting.{isUserFetch, countingSet}
+use Rattle.access_events.specs.Counting.{isUserFetch, countedSet, countingSet}
 
 -- MBEC is on for each level of a set, and SMEP is unavailable or on as `allowed` tells: the needed bit of a user fetch by the set of those
 -- whose MBEC counts. Another access needs one bit whatever counts.
@@ -46,7 +46,7 @@ module _ {z : Shape} {P : ℕ} {x : Partition} {p : VirtualProcessor} {s : State
   actor-by = ap level (sym acts)
 
   counted : (t : ℕ) → t < 4 → needed (bit (mbecs .0) t) mode access ≡ needed (mbecCounts s v t (activeOf p)) mode access
-  unfolding mbecCounts mbecOn countingSet
+  unfolding mbecCounts mbecOn countingSet countedSet
   counted t i = rw (mbec, h .shaped, h .holds, ← acts) (needed-by-set (λ t. bit (secureOf z p t (actor .0)) mbecBit) (smepAllows z p (actor .0)) mode access t i)
 
   same-denying : denyingSet z P x (levelSet (bits 4 (λ t. mbecCounts s v t (activeOf p)))) attempt ≡ denyingSet z P x mbecs attempt

@@ -18,9 +18,10 @@ isUserFetch mode Read = false
 isUserFetch mode Write = false
 isUserFetch mode Fetch = isUser mode
 
--- Of an attempt of that kind: the levels that have MBEC on for the actor, where SMEP is unavailable or on at the actor. Of another: none.
+-- The levels whose MBEC counts for the acting level l: those that have it on for l, where SMEP is unavailable or on at l; else none.
+unfoldable pub countedSet : Shape → VirtualProcessor → ℕ → ℕ
+countedSet z p l = cond (smepAllows z p l) (bits 4 (λ t. bit (secureOf z p t l) mbecBit)) 0
+
+-- The same for an attempt, where it is of that kind; of another: none.
 unfoldable pub countingSet : Shape → VirtualProcessor → Attempt → ℕ
-countingSet z p a =
-    cond (isUserFetch (a .mode) (a .access))
-    (cond (smepAllows z p (a .actor .0)) (bits 4 (λ t. bit (secureOf z p t (a .actor .0)) mbecBit)) 0)
-    0
+countingSet z p a = cond (isUserFetch (a .mode) (a .access)) (countedSet z p (a .actor .0)) 0

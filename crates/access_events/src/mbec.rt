@@ -3,7 +3,7 @@
 ghost use mathlib.Core.Path.{_≡_};
 ghost use Rattle.model.specs.Memory.{smepAllows};
 ghost use Rattle.processor.specs.Record.{vpOf};
-ghost use Rattle.access_events.specs.Counting.{isUserFetch, countingSet};
+ghost use Rattle.access_events.specs.Counting.{isUserFetch, countedSet, countingSet};
 use model::machine::Shape;
 use model::quantity::Access;
 use model::quantity::Level;
@@ -39,7 +39,17 @@ fn is_user_fetch(mode: Mode, access: Access) -> bool
     }
 }
 
-// The levels whose MBEC counts for an attempt. No access but a fetch in user mode needs another bit where it does, so no other asks.
+// The levels whose MBEC counts for the acting level.
+pub fn counted_set(shape: Shape, vp: &Record, actor: Level) -> LevelSet
+    ensures { λ r. ⌜ r .0 ≡ countedSet shape (vpOf (now (vp .entry))) (actor .0) ⌝ }
+{
+    if !smep_allows(shape, vp, actor) {
+        return LevelSet(0);
+    }
+    mbec_set(shape, vp, actor)
+}
+
+// The same for an attempt. No access but a fetch in user mode needs another bit where MBEC counts, so no other asks.
 pub(crate) fn counting_set(shape: Shape, vp: &Record, attempt: Attempt) -> LevelSet
     ensures { λ r. ⌜ r .0 ≡ countingSet shape (vpOf (now (vp .entry))) attempt ⌝ }
 {
@@ -49,8 +59,5 @@ pub(crate) fn counting_set(shape: Shape, vp: &Record, attempt: Attempt) -> Level
     if !is_user_fetch(mode, access) {
         return LevelSet(0);
     }
-    if !smep_allows(shape, vp, actor) {
-        return LevelSet(0);
-    }
-    mbec_set(shape, vp, actor)
+    counted_set(shape, vp, actor)
 }

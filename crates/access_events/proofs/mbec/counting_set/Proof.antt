@@ -1,4 +1,4 @@
--- `mbec::counting_set` meets its contract: the two tests of the definition, and the levels that have MBEC on. Assumes nothing.
+-- `mbec::counting_set` meets its contract: the test of the definition, and the levels whose MBEC counts. Assumes nothing.
 use mathlib.Core.Path.{sym, _∙_}
 use borrow.Author.Needs.{needs}
 use borrow.Author.Tests.{not-false, not-true}
@@ -12,13 +12,7 @@ returns c = rw (sym (c .before .is-user-fetch .ensures) ∙ not-true _ (c .if1 .
 
 returns-2 : tie.Need-returns-2
 unfolding countingSet
-returns-2 c =
-    rw (sym (c .before .before .before .is-user-fetch .ensures) ∙ not-false _ (c .before .before .if1 .left), sym (c .before .smep-allows .ensures) ∙ not-true _ (c .if2 .taken))
-
-returns-3 : tie.Need-returns-3
-unfolding countingSet
-returns-3 c =
-    rw (sym (c .before .before .before .before .is-user-fetch .ensures) ∙ not-false _ (c .before .before .before .if1 .left), sym (c .before .before .smep-allows .ensures) ∙ not-false _ (c .before .if2 .left), c .mbec-set .ensures)
+returns-2 c = rw (sym (c .before .before .is-user-fetch .ensures) ∙ not-false _ (c .before .if1 .left), c .counted-set .ensures)
 
 pub counting-set-spec : {M : Type 1} → statement M
-counting-set-spec = tie.close (tie.spec (λ c κs. search needs) returns (λ c κs. search needs) returns-2 (λ c κs. search needs) returns-3)
+counting-set-spec = tie.close (tie.spec (λ c κs. search needs) returns (λ c κs. search needs) returns-2)
