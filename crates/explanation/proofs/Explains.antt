@@ -31,7 +31,7 @@ use Rattle.explanation.specs.declared.Explanation.{Explanation}
 use Rattle.explanation.specs.declared.Explanation.the-variants.{Allowed, Host, Levels}
 use Rattle.explanation.specs.declared.Receiver.{Receiver}
 use Rattle.explanation.specs.declared.Receiver.the-variants.{Nobody, By}
-use Rattle.explanation.specs.Explained.{receiverBy, denialBy, denialOf, hostOnly, explanationOf}
+use Rattle.explanation.specs.Explained.{receiverBy, denialBy, denialOf, explanationOf}
 use Rattle.explanation.specs.ExplainedClaims.{DeniedTo, Explains, AnswerExplained, denialIn, isDenial, Shows, DenialsShown}
 
 -- The answer that an explanation is of; x is the value of an access that is done.
@@ -101,7 +101,7 @@ module _ (s : State) (v : ℕ) (mode : Mode) (p : ℕ) (access : Access) where
       sym (any-at 4 at q l low) ∙ and-left (at l) (enabledOn s v l) (least-found 4 (λ t. at t && enabledOn s v t) low)
 
   answer-explained : (x : ℕ) → p < pages s → firstOf (byAccess s v mode p access) (Done x) ≡ answerBy (explanationOf s v mode p access) x
-  unfolding firstOf explanationOf receiverBy hostOnly
+  unfolding firstOf explanationOf
   answer-explained x h =
       rw (lt-leb (pages s) p h)
       (in-turn (ltb (receiver s v mode p access) noLevel) (denied s v mode p access) (hostDenies s p access) (receiver s v mode p access)
@@ -154,7 +154,7 @@ module _ (s : State) (v : ℕ) (mode : Mode) (p : ℕ) (access : Access) where
   in-place false false r q t = absent t (none-denies q t)
 
   shown : (t : ℕ) → denialIn (explanationOf s v mode p access) t ≡ denialOf s v mode p access t
-  unfolding explanationOf hostOnly
+  unfolding explanationOf
   shown = in-place (denied s v mode p access) (hostDenies s p access) (receiverBy (receiver s v mode p access)) refl
 
 -- A level that denies has a denial.

@@ -12,11 +12,11 @@ use Rattle.explanation.specs.declared.Explanation.{Explanation}
 use Rattle.explanation.specs.declared.Receiver.{Receiver}
 
 -- The receiving level or `none`. A search for a level gives l.
-unfoldable pub receiverBy : ℕ → Receiver
+abbrev pub receiverBy : ℕ → Receiver
 receiverBy l = cond (ltb l noLevel) (Receiver.By (level l)) Receiver.Nobody
 
 -- MBEC is told of a fetch, user or kernel, and of no other access.
-unfoldable pub isFetch : Access → Bool
+abbrev pub isFetch : Access → Bool
 isFetch Access.Read = false
 isFetch Access.Write = false
 isFetch Access.Fetch = true
@@ -33,7 +33,7 @@ denialOf s v mode p access t =
     denialBy (denies s v mode p access t) (maskOf s t p) (mbecCounts s v t (active s v)) mode access
 
 -- `allowed`; or `host` where the host alone denies.
-unfoldable pub hostOnly : Bool → Explanation
+abbrev pub hostOnly : Bool → Explanation
 hostOnly denies = cond denies Explanation.Host Explanation.Allowed
 
 -- Or the receiving level or `none`, and the denying levels of 1 to 3, rising.
