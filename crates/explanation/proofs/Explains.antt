@@ -1,12 +1,13 @@
--- The explanation of an access is that of its answer, and shows each denying level (`AnswerExplained` and `DenialsShown` of
--- specs/ExplainedClaims.antt). An explanation says what the answer is, up to the value of an access that is done. Assumes nothing.
+-- The explanation of an access is that of its answer, and shows each denying level as it denies (`AnswerExplained`, `DenialsShown` and
+-- `DenialsFit` of specs/ExplainedClaims.antt). An explanation says what the answer is, up to the value of an access that is done. Assumes nothing.
 use mathlib.Core.Path.{_≡_, refl, sym, ap, _∙_}
-use mathlib.Core.Bool.{Bool, true, false, cond, _&&_, and-false, false≢true}
-use Prim.Native.Nat.{ℕ, zero, suc, _≤_, _<_}
+use mathlib.Core.Bool.{Bool, true, false, not, cond, _&&_, and-false, false≢true}
+use Prim.Native.Nat.{ℕ, zero, suc, _/_, _%_, _^_, _≤_, _<_}
 use native.Mathlib.Omega.{arith}
-use lib.Dec.{leb, ltb}
-use borrow.Author.Tests.{ltb-true, ltb-false, le-ltb, lt-leb}
-use Rattle.model.proofs.Bools.{and-left}
+use lib.Dec.{ltb, eqb}
+use borrow.Author.Tests.{ltb-true, ltb-false, le-ltb, lt-leb, eqb-false, not-true}
+use Rattle.word.specs.Field.{bit}
+use Rattle.model.proofs.Bools.{and-left, and-right}
 use Rattle.model.proofs.BoundedLaws.{any-at, least-found}
 use Rattle.model.specs.declared.answer.Answer.{Answer}
 use Rattle.model.specs.declared.answer.Answer.the-variants.{Done, Refused, Intercept}
@@ -21,8 +22,8 @@ use Rattle.model.specs.declared.quantity.Processor.{Processor}
 use Rattle.model.specs.Answers.{numberOf, valueOf, firstOf, _when_}
 use Rattle.model.specs.Events.{byAccess}
 use Rattle.model.specs.Masks.{protectsIn}
-use Rattle.model.specs.Memory.{deniesIn, denies, denied, receiver, hostDenies}
-use Rattle.model.specs.State.{State, level, noLevel, processors, pages, active, isLevel, configIn, enabledOn, wordOf}
+use Rattle.model.specs.Memory.{needed, mbecCounts, deniesIn, denies, denied, receiver, hostDenies}
+use Rattle.model.specs.State.{State, level, noLevel, processors, shape, pages, partition, active, isLevel, configIn, enabledOn, maskOf, wordOf}
 use Rattle.model.specs.Step.{ruleOf, rule, ruled, modeOf, step}
 use Rattle.model.specs.WellFormed.{wellFormed}
 use Rattle.access_events.specs.Access.{accessed, accessValue}
@@ -31,8 +32,8 @@ use Rattle.explanation.specs.declared.Explanation.{Explanation}
 use Rattle.explanation.specs.declared.Explanation.the-variants.{Allowed, Host, Levels}
 use Rattle.explanation.specs.declared.Receiver.{Receiver}
 use Rattle.explanation.specs.declared.Receiver.the-variants.{Nobody, By}
-use Rattle.explanation.specs.Explained.{receiverBy, denialBy, denialOf, explanationOf}
-use Rattle.explanation.specs.ExplainedClaims.{DeniedTo, Explains, AnswerExplained, denialIn, isDenial, Shows, DenialsShown}
+use Rattle.explanation.specs.Explained.{receiverBy, isFetch, denialBy, denialOf, explanationOf}
+use Rattle.explanation.specs.ExplainedClaims.{DeniedTo, Explains, AnswerExplained, denialIn, isDenial, Shows, DenialsShown, FitsIn, DenialsFit}
 
 -- The answer that an explanation is of; x is the value of an access that is done.
 abbrev answerBy : Explanation → ℕ → Answer
@@ -168,3 +169,26 @@ unfolding denialOf
 denials-are-shown s v mode p access t =
     let d = shown s v mode p access t in
     record { denial = d; denying = ap isDenial d ∙ denial-test _ _ _ _ _ }
+
+-- A bit that is not set, and the bit that an access needs by what is told of MBEC: no read or write asks for it.
+clear : (n : ℕ) → eqb (n % 2) 1 ≡ false → n % 2 ≡ 0
+clear n q = let d : (n % 2 ≡ 1 → ⊥) = eqb-false (n % 2) 1 q in omega arith
+
+needed-as-told : (mbec : Bool) (mode : Mode) (access : Access) → needed mbec mode access ≡ needed (isFetch access && mbec) mode access
+unfolding needed
+needed-as-told mbec mode Read = refl
+needed-as-told mbec mode Write = refl
+needed-as-told mbec mode Fetch = refl
+
+fitting : (b : Bool) (mask : ℕ) (mbec : Bool) (mode : Mode) (access : Access) → (b ≡ true → bit mask (needed mbec mode access) ≡ false)
+    → FitsIn mode access (denialBy b mask mbec mode access)
+unfolding denialBy
+fitting false mask mbec mode access h = tt
+fitting true mask mbec mode access h =
+    record { lacks = clear (mask / 2 ^ needed mbec mode access) (h refl); needs = ap (λ n. 2 ^ n) (needed-as-told mbec mode access) }
+
+pub denials-fit : DenialsFit
+unfolding denialOf denies deniesIn maskOf
+denials-fit s v mode p access t =
+    let on = ltb (active s v) t && protectsIn (shape s) (partition s .configs) t in
+    fitting _ _ _ mode access (λ h. not-true _ (and-right on (not (bit (maskOf s t p) (needed (mbecCounts s v t (active s v)) mode access))) h))

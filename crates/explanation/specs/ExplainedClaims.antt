@@ -3,7 +3,7 @@
 use mathlib.Core.Path.{_≡_}
 use mathlib.Core.Bool.{Bool, true, false}
 use mathlib.Core.Logic.{_↔_}
-use Prim.Native.Nat.{ℕ, zero, suc, _≤_, _<_}
+use Prim.Native.Nat.{ℕ, zero, suc, _/_, _%_, _^_, _≤_, _<_}
 use Rattle.model.specs.declared.answer.Answer.{Answer}
 use Rattle.model.specs.declared.event.Event.the-variants.{Made}
 use Rattle.model.specs.declared.quantity.Access.{Access}
@@ -12,7 +12,7 @@ use Rattle.model.specs.declared.quantity.Mode.{Mode}
 use Rattle.model.specs.declared.quantity.Page.{Page}
 use Rattle.model.specs.declared.quantity.Processor.{Processor}
 use Rattle.model.specs.Answers.{numberOf, valueOf}
-use Rattle.model.specs.Memory.{denies}
+use Rattle.model.specs.Memory.{needed, denies}
 use Rattle.model.specs.State.{State, processors, pages}
 use Rattle.model.specs.Step.{modeOf, step}
 use Rattle.model.specs.WellFormed.{wellFormed}
@@ -64,3 +64,15 @@ pub record Shows (s : State) (v : ℕ) (mode : Mode) (p : ℕ) (access : Access)
 
 abbrev pub DenialsShown : Type 0
 DenialsShown = (s : State) (v : ℕ) (mode : Mode) (p : ℕ) (access : Access) (t : ℕ) → Shows s v mode p access t
+
+-- What a denial shows fits together: the mask lacks the wanted bit, which is the one that the access needs where MBEC counts as shown.
+pub record Fits (mode : Mode) (access : Access) (mask wanted : ℕ) (mbec : Bool) : Type 0 where
+  pub lacks : mask / wanted % 2 ≡ 0
+  pub needs : wanted ≡ 2 ^ needed mbec mode access
+
+abbrev pub FitsIn : Mode → Access → Denial → Type 0
+FitsIn mode access Denial.Absent = Unit
+FitsIn mode access (Denial.By mask wanted mbec) = Fits mode access mask wanted mbec
+
+abbrev pub DenialsFit : Type 0
+DenialsFit = (s : State) (v : ℕ) (mode : Mode) (p : ℕ) (access : Access) (t : ℕ) → FitsIn mode access (denialOf s v mode p access t)

@@ -157,7 +157,8 @@ pub fn explain(
     if denying.0 == 0 {
         return host_only(host_denies(setup.host_mask, access));
     }
-    let receiver = receiver_by(lowest(denying, enabled_set(shape, vp)));
+    let enabled = enabled_set(shape, vp);
+    let receiver = receiver_by(lowest(denying, enabled));
     let first = denial_of(shape, pages, masks, denying, mbecs, attempt, Level(1));
     let second = denial_of(shape, pages, masks, denying, mbecs, attempt, Level(2));
     let third = denial_of(shape, pages, masks, denying, mbecs, attempt, Level(3));
