@@ -16,16 +16,13 @@ use Rattle.model.specs.declared.quantity.Page.{Page}
 use Rattle.model.specs.declared.set.LevelSet.{LevelSet}
 use Rattle.model.specs.Bounded.{bits}
 use Rattle.model.specs.Memory.{mbecOn, smepAllows, mbecCounts, denies, denied, receiver, hostDenies, hostDeniesBy}
-use Rattle.model.specs.State.{State, level, levelSet, vp, activeOf, active, enabledAt, enabledOn, maskIn, maskOf, hostMask, secureOf, mbecBit}
+use Rattle.model.specs.State.{State, level, vp, activeOf, active, enabledAt, enabledOn, maskIn, maskOf, hostMask, secureOf, mbecBit}
 use Rattle.partition.proofs.DenyingLevels.{mbecsOn, attemptOn, denyingOn, denied-of, receiver-of}
-use Rattle.partition.specs.declared.access.Attempt.{Attempt}
 use Rattle.partition.specs.Denying.{denyingSet, lowestIn}
 use Rattle.promise.specs.Promise.{Acts}
 use Rattle.access_events.specs.Counting.{countedSet}
 use Rattle.explanation.specs.declared.Denial.{Denial}
-use Rattle.explanation.specs.declared.Explanation.{Explanation}
 use Rattle.explanation.specs.declared.Explanation.the-variants.{Levels}
-use Rattle.explanation.specs.declared.Receiver.{Receiver}
 use Rattle.explanation.specs.Explained.{receiverBy, denialBy, denialOf, hostOnly, explanationOf}
 
 -- The set of the levels whose MBEC is on, where SMEP allows it to count, has each level whose MBEC counts.
@@ -62,9 +59,9 @@ module _ {z : Shape} {P : ℕ} {x : Partition} {p : VirtualProcessor} {s : State
   denied-is : denied s v mode (page .0) access ≡ not (eqb denying 0)
   denied-is = denied-of s v mode page access ∙ ap (λ n. not (eqb n 0)) denying-is
 
-  receiver-is : (enabled l : ℕ) → enabled ≡ bits 4 (λ t. enabledAt z p t) → l ≡ lowestIn denying enabled → receiver s v mode (page .0) access ≡ l
+  receiver-is : receiver s v mode (page .0) access ≡ lowestIn denying (bits 4 (λ t. enabledAt z p t))
   unfolding enabledOn
-  receiver-is enabled l e q = receiver-of s v mode page access ∙ rw (denying-is, acts .shaped, holds, ← e, ← q)
+  receiver-is = receiver-of s v mode page access ∙ rw (denying-is, acts .shaped, holds)
 
   -- What level t says of the access.
   abbrev denialAt : ℕ → Denial
@@ -83,8 +80,7 @@ module _ {z : Shape} {P : ℕ} {x : Partition} {p : VirtualProcessor} {s : State
   host-explained k q none = rw (denied-is, none, q)
 
   -- Some level does.
-  pub levels-explained : (enabled l : ℕ) → enabled ≡ bits 4 (λ t. enabledAt z p t) → l ≡ lowestIn denying enabled → eqb denying 0 ≡ false
-      → explanationOf s v mode (page .0) access ≡ Levels (receiverBy l) (denialAt 1) (denialAt 2) (denialAt 3)
+  pub levels-explained : eqb denying 0 ≡ false
+      → explanationOf s v mode (page .0) access ≡ Levels (receiverBy (lowestIn denying (bits 4 (λ t. enabledAt z p t)))) (denialAt 1) (denialAt 2) (denialAt 3)
   unfolding explanationOf
-  levels-explained enabled l e q some =
-      rw (denied-is, some, receiver-is enabled l e q, denial-is 1 (omega arith), denial-is 2 (omega arith), denial-is 3 (omega arith))
+  levels-explained some = rw (denied-is, some, receiver-is, denial-is 1 (omega arith), denial-is 2 (omega arith), denial-is 3 (omega arith))

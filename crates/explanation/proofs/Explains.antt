@@ -19,7 +19,7 @@ use Rattle.model.specs.declared.quantity.Level.{Level}
 use Rattle.model.specs.declared.quantity.Mode.{Mode}
 use Rattle.model.specs.declared.quantity.Page.{Page}
 use Rattle.model.specs.declared.quantity.Processor.{Processor}
-use Rattle.model.specs.Answers.{numberOf, valueOf, firstOf, _when_}
+use Rattle.model.specs.Answers.{numberOf, valueOf, firstOf}
 use Rattle.model.specs.Events.{byAccess}
 use Rattle.model.specs.Masks.{protectsIn}
 use Rattle.model.specs.Memory.{needed, mbecCounts, deniesIn, denies, denied, receiver, hostDenies}
@@ -33,7 +33,7 @@ use Rattle.explanation.specs.declared.Explanation.the-variants.{Allowed,
 use Rattle.explanation.specs.declared.Receiver.{Receiver}
 use Rattle.explanation.specs.declared.Receiver.the-variants.{Nobody, By}
 use Rattle.explanation.specs.Explained.{receiverBy, isFetch, denialBy, denialOf, explanationOf}
-use Rattle.explanation.specs.ExplainedClaims.{DeniedTo, Explains, AnswerExplained, denialIn, isDenial, Shows, DenialsShown, FitsIn, DenialsFit}
+use Rattle.explanation.specs.ExplainedClaims.{DeniedTo, Explains, AnswerExplained, denialIn, isDenial, DenialsShown, FitsIn, DenialsFit}
 
 -- The answer that an explanation is of; x is the value of an access that is done.
 abbrev answerBy : Explanation → ℕ → Answer

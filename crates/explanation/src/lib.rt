@@ -4,8 +4,10 @@ ghost use mathlib.Core.Path.{_≡_};
 ghost use mathlib.Core.List.{List};
 ghost use Prim.Native.Nat.{ℕ, _^_};
 ghost use Rattle.word.specs.Field.{bit};
+ghost use Rattle.model.specs.Bounded.{bits};
 ghost use Rattle.model.specs.Memory.{needed as neededBit};
-ghost use Rattle.model.specs.State.{State, vp as vpIn, activeOf, maskIn, hostMask};
+ghost use Rattle.model.specs.State.{State, vp as vpIn, activeOf, enabledAt, maskIn, hostMask};
+ghost use Rattle.partition.specs.Denying.{lowestIn};
 ghost use Rattle.partition.specs.PartitionView.{partitionOf};
 ghost use Rattle.processor.specs.Record.{vpOf};
 ghost use Rattle.promise.specs.Promise.{Acts};
@@ -60,10 +62,13 @@ pub enum Explanation {
     },
 }
 
-// The receiver by what the search for one gives.
-fn receiver_by(level: Level) -> Receiver
-    ensures { λ r. ⌜ r ≡ receiverBy (level .0) ⌝ }
+// The lowest of the levels that deny which is enabled on the processor, or nobody.
+fn receiver_of(shape: Shape, vp: &Record, denying: LevelSet) -> Receiver
+    ensures { λ r. ⌜ r
+        ≡ receiverBy (lowestIn (denying .0) (bits 4 (λ l. enabledAt shape (vpOf (now (vp .entry))) l))) ⌝ }
 {
+    let enabled = enabled_set(shape, vp);
+    let level = lowest(denying, enabled);
     if level.0 < NO_LEVEL {
         return Receiver::By(level);
     }
@@ -90,8 +95,7 @@ fn wanted(mbec: bool, mode: Mode, access: Access) -> u64
 
 // How a level stands to an attempt, by the levels that deny it and those whose MBEC counts.
 fn denial_of(
-    shape: Shape,
-    pages: u64,
+    setup: Setup,
     masks: &Masks,
     denying: LevelSet,
     mbecs: LevelSet,
@@ -99,8 +103,8 @@ fn denial_of(
     level: Level,
 ) -> Denial
     ensures { λ r. ⌜ r ≡ denialBy (bit (denying .0) (level .0))
-        (maskIn shape pages (now (masks .entry)) (level .0) (attempt .page .0)) (bit (mbecs .0) (level .0))
-        (attempt .mode) (attempt .access) ⌝ }
+        (maskIn (setup .shape) (setup .pages) (now (masks .entry)) (level .0) (attempt .page .0))
+        (bit (mbecs .0) (level .0)) (attempt .mode) (attempt .access) ⌝ }
 {
     if !in_set(denying, level) {
         return Denial::Absent;
@@ -110,7 +114,7 @@ fn denial_of(
     let counts = in_set(mbecs, level);
     let fetch = is_fetch(access);
     Denial::By {
-        mask: mask_at(shape, pages, masks, level, attempt.page),
+        mask: mask_at(setup.shape, setup.pages, masks, level, attempt.page),
         wanted: wanted(counts, mode, access),
         mbec: fetch & counts,
     }
@@ -126,7 +130,8 @@ fn host_only(denies: bool) -> Explanation
     Explanation::Allowed
 }
 
-// Why a request of the level that is active by the record of a processor is allowed or denied. A page that there is not has the mask 0.
+// Why a request of the level that is active by a processor's record is allowed or denied. A page that there is not has the mask 0. For all
+// arguments there is a state with these parts (`Some` of crate `promise`).
 pub fn explain(
     setup: Setup,
     vp: &Record,
@@ -140,8 +145,6 @@ pub fn explain(
         → vpIn s v ≡ vpOf (now (vp .entry)) → hostMask s (request .page .0) ≡ setup .«host_mask»
         → explanationOf s v (request .mode) (request .page .0) (request .access) ≡ r) ⌝ }
 {
-    let shape = setup.shape;
-    let pages = setup.pages;
     let mode = request.mode;
     let page = request.page;
     let access = request.access;
@@ -152,16 +155,15 @@ pub fn explain(
         page,
         access,
     };
-    let mbecs = counted_set(shape, vp, actor);
-    let denying = denying_set(shape, pages, levels, masks, mbecs, attempt);
+    let mbecs = counted_set(setup.shape, vp, actor);
+    let denying = denying_set(setup.shape, setup.pages, levels, masks, mbecs, attempt);
     if denying.0 == 0 {
         return host_only(host_denies(setup.host_mask, access));
     }
-    let enabled = enabled_set(shape, vp);
-    let receiver = receiver_by(lowest(denying, enabled));
-    let first = denial_of(shape, pages, masks, denying, mbecs, attempt, Level(1));
-    let second = denial_of(shape, pages, masks, denying, mbecs, attempt, Level(2));
-    let third = denial_of(shape, pages, masks, denying, mbecs, attempt, Level(3));
+    let receiver = receiver_of(setup.shape, vp, denying);
+    let first = denial_of(setup, masks, denying, mbecs, attempt, Level(1));
+    let second = denial_of(setup, masks, denying, mbecs, attempt, Level(2));
+    let third = denial_of(setup, masks, denying, mbecs, attempt, Level(3));
     Explanation::Levels {
         receiver,
         first,

@@ -11,22 +11,21 @@ returns : tie.Need-returns
 unfolding partitionOf
 returns c s v acts holds host =
     let k = c .before .before .before .before in
-    let a = k .before .before .before .before .before .args in
+    let a = k .before .before .before .before .args in
     host-explained acts holds (a .request .mode) (a .request .page) (a .request .access) (k .before .before .active-of .result) (k .before .before .active-of .ensures) (k .before .counted-set .result) (k .before .counted-set .ensures) (k .denying-set .result .0) (k .denying-set .ensures) (a .setup .«host_mask») host (eq-eqb _ 0 (c .before .before .if1 .taken))
     ∙ sym (rw (c .host-only .ensures, c .before .host-denies .ensures))
 
 returns-2 : tie.Need-returns-2
 unfolding partitionOf
 returns-2 c s v acts holds host =
-    let k = c .before .before .before .before .before .before .before .before in
-    let a = k .before .before .before .before .before .args in
-    levels-explained acts holds (a .request .mode) (a .request .page) (a .request .access) (k .before .before .active-of .result) (k .before .before .active-of .ensures) (k .before .counted-set .result) (k .before .counted-set .ensures) (k .denying-set .result .0) (k .denying-set .ensures) (c .before .before .before .before .before .enabled-set .result .0) (c .before .before .before .before .lowest .result .0) (c .before .before .before .before .before .enabled-set .ensures) (c .before .before .before .before .lowest .ensures) (ne-eqb _ 0 (c .before .before .before .before .before .before .if1 .left))
-    ∙ sym (rw (c .before .before .before .receiver-by .ensures, c .before .before .denial-of .ensures, c .before .denial-of2 .ensures, c .denial-of3 .ensures))
+    let k = c .before .before .before .before .before .before in
+    let a = k .before .before .before .before .args in
+    levels-explained acts holds (a .request .mode) (a .request .page) (a .request .access) (k .before .before .active-of .result) (k .before .before .active-of .ensures) (k .before .counted-set .result) (k .before .counted-set .ensures) (k .denying-set .result .0) (k .denying-set .ensures) (ne-eqb _ 0 (c .before .before .before .before .if1 .left))
+    ∙ sym (rw (c .before .before .before .receiver-of .ensures, c .before .before .denial-of .ensures, c .before .denial-of2 .ensures, c .denial-of3 .ensures))
 
 pub explain-spec : {M : Type 1} → statement M
 explain-spec =
     tie.close
     (tie.spec
     (λ c κs. search needs) (λ c κs. search needs) (λ c κs. search needs) (λ c κs. search needs) (λ c κs. search needs) returns
-    (λ c κs. search needs) (λ c κs. search needs) (λ c κs. search needs) (λ c κs. search needs) (λ c κs. search needs) (λ c κs. search needs)
-    returns-2)
+    (λ c κs. search needs) (λ c κs. search needs) (λ c κs. search needs) (λ c κs. search needs) returns-2)
