@@ -20,10 +20,10 @@ use Rattle.script.specs.Bytes.{same}
 use Rattle.script.specs.EventForms.{events, lineEvent}
 use Rattle.script.specs.First.{firstForm, lineFirst, vsm, vsmShort}
 use Rattle.script.specs.LineForms.{Form, among, fields, inForm, longestLine, made, numbersIn, ofNumbers, said, saidIn}
-use Rattle.script.specs.Texts.{Text, actionText, eventLine, eventText, firstLineOf, firstText, parted, shortFirstLineOf, shortFirstText, text, written}
+use Rattle.script.specs.Texts.{Text, actionText, eventLine, eventText, firstLineOf, firstText, parted, shortFirstLineOf, shortFirstText, text, together, written}
 use Rattle.script.specs.declared.Parsed.the-variants as parsed
 use Rattle.script.specs.declared.Start.the-variants as start
-use Rattle.script.proofs.Parted.{numbers-text, put-together, together}
+use Rattle.script.proofs.Parted.{numbers-text, put-together}
 use Rattle.script.proofs.NumberReading.{numbers-length}
 use Rattle.script.proofs.Same.{same-true}
 

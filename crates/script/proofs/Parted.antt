@@ -9,6 +9,7 @@ use borrow.Author.Tests.{eqb-true, ne-eqb}
 use native.Mathlib.Omega.{arith}
 use lib.Dec.{eqb}
 use lib.ListN.{length, length-append, take}
+use Rattle.decimal.proofs.DigitReading.{and-parts}
 use Rattle.decimal.proofs.Digits.{text-digits, text-length}
 use Rattle.decimal.proofs.OneText.{one-text}
 use Rattle.decimal.proofs.DecimalRoundTrip.{round-trip}
@@ -18,12 +19,12 @@ use Rattle.decimal.specs.declared.Number.{Number}
 use Rattle.decimal.specs.declared.Number.the-variants.{Value, Malformed}
 use Rattle.script.specs.LineForms.{fields, followedBy, inFront, numbersIn, tab}
 use Rattle.script.specs.NumberRows.{fieldsAfter, untilTab}
-use Rattle.script.specs.Texts.{Numbers, parted}
+use Rattle.script.specs.Texts.{Numbers, parted, together}
 use Rattle.script.proofs.Naming.{noTab}
 use Rattle.script.proofs.FieldPlaces.{fields-first}
-use Rattle.script.proofs.Same.{differ}
+use Rattle.script.proofs.Same.{differ, every}
 
--- Digits have no tab.
+-- Digits have no tab, and numbers have only digits.
 no-tab-digits : (field : List ℕ) → OnlyDigits field → noTab field ≡ true
 no-tab-digits [] h = refl
 no-tab-digits (byte ∷ field) (low, high, more) = rw (ne-eqb byte tab (λ e. omega arith)) (no-tab-digits field more)
@@ -39,16 +40,28 @@ first-field (byte ∷ field) rest more h e = go (eqb byte tab) h (λ k. first-fi
     go true k ih = differ k
     go false k ih = rw (ih k)
 
-fields-of-numbers : (numbers : List ℕ) → fields (parted (map decimal numbers)) ≡ [] ∷ map decimal numbers
+fields-of-parted : (more : List (List ℕ)) → every noTab more ≡ true → fields (parted more) ≡ [] ∷ more
 unfolding fields parted
-fields-of-numbers [] = refl
-fields-of-numbers (n ∷ numbers) =
-    ap (λ (more : List (List ℕ)). [] ∷ more)
-    (first-field (decimal n) (parted (map decimal numbers)) (map decimal numbers) (no-tab-digits (decimal n) (text-digits n)) (fields-of-numbers numbers))
+fields-of-parted [] h = refl
+fields-of-parted (field ∷ more) h =
+    let (plain, rest) = and-parts (noTab field) (every noTab more) h in
+    ap (λ (others : List (List ℕ)). [] ∷ others) (first-field field (parted more) more plain (fields-of-parted more rest))
+
+-- The fields of a line that was put together are these again.
+pub fields-together : (word : List ℕ) (more : List (List ℕ)) → noTab word ≡ true → every noTab more ≡ true
+    → fields (together (word ∷ more)) ≡ word ∷ more
+fields-together word more h k = first-field word (parted more) more h (fields-of-parted more k)
 
 -- The fields of a word and numbers.
+pub no-tab-number : (n : ℕ) → noTab (decimal n) ≡ true
+no-tab-number n = no-tab-digits (decimal n) (text-digits n)
+
+no-tab-numbers : (numbers : List ℕ) → every noTab (map decimal numbers) ≡ true
+no-tab-numbers [] = refl
+no-tab-numbers (n ∷ numbers) = rw (no-tab-number n) (no-tab-numbers numbers)
+
 pub fields-of : (word numbers : List ℕ) → noTab word ≡ true → fields (word ++ parted (map decimal numbers)) ≡ word ∷ map decimal numbers
-fields-of word numbers h = first-field word (parted (map decimal numbers)) (map decimal numbers) h (fields-of-numbers numbers)
+fields-of word numbers h = fields-together word (map decimal numbers) h (no-tab-numbers numbers)
 
 -- Numbers in decimal are read as these numbers.
 pub numbers-read : (numbers : List ℕ) → Numbers numbers → numbersIn (map decimal numbers) ≡ some numbers
@@ -74,10 +87,6 @@ numbers-text (field ∷ texts) numbers h = go (readDecimal field) (numbersIn tex
         rw (← e, one-text field n says .1, ih rest refl)
 
 -- A line is its fields put together.
-abbrev pub together : List (List ℕ) → List ℕ
-together [] = []
-together (word ∷ more) = word ++ parted more
-
 pub put-together : (line : List ℕ) → line ≡ together (fields line)
 unfolding fields parted
 put-together [] = refl

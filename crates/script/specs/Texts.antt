@@ -13,6 +13,11 @@ unfoldable pub parted : List (List ℕ) → List ℕ
 parted [] = []
 parted (field ∷ more) = tab ∷ field ++ parted more
 
+-- A line is its fields put together, one tab between two.
+abbrev pub together : List (List ℕ) → List ℕ
+together [] = []
+together (word ∷ more) = word ++ parted more
+
 -- A line as its form and its numbers.
 pub record Text (A : Type 0) : Type 0 where
   pub form : Form A
