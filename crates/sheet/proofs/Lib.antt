@@ -2,3 +2,8 @@
 pub mod SheetReading  -- the fields of an explanation's line, and that no other explanation has it
 pub mod TextPutting  -- a text put into a buffer
 pub mod SheetLengths  -- how long the line of an explanation is
+pub mod WordBytes  -- texts that are compared
+pub mod FieldPassing  -- the way along the fields of a sheet
+pub mod FirstFields  -- the form of a sheet by its first field
+pub mod FieldShowing  -- the fields of a sheet, shown one a line
+pub mod VerdictLaws  -- the verdict on a sheet

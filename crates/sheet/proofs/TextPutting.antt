@@ -25,10 +25,14 @@ copied buffer at text room rest e =
 abbrev pub Put : List ℕ → ℕ → List ℕ → ℕ → List ℕ → Type 0
 Put buffer at text after last = (after ≡ afterText buffer at text) × (last ≡ withText buffer at text)
 
--- A text that has room is written.
+-- A text that has room is written, and what is written with room is promised so.
 pub put-written : (buffer : List ℕ) (at : ℕ) (text : List ℕ) {after : ℕ} {last : List ℕ} → at + length text ≤ length buffer
     → Put buffer at text after last → Written buffer at text after last
 put-written buffer at text room p = (p .0 ∙ after-room buffer at text room, p .1 ∙ with-room buffer at text room)
+
+pub written-put : (buffer : List ℕ) (at : ℕ) (text : List ℕ) {after : ℕ} {last : List ℕ} → at + length text ≤ length buffer
+    → Written buffer at text after last → Put buffer at text after last
+written-put buffer at text room w = (w .0 ∙ sym (after-room buffer at text room), w .1 ∙ sym (with-room buffer at text room))
 
 -- At the start of the buffer.
 abbrev pub Begun : List ℕ → List ℕ → ℕ → List ℕ → Type 0
