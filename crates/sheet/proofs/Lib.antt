@@ -7,3 +7,5 @@ pub mod FieldPassing  -- the way along the fields of a sheet
 pub mod FirstFields  -- the form of a sheet by its first field
 pub mod FieldShowing  -- the fields of a sheet, shown one a line
 pub mod VerdictLaws  -- the verdict on a sheet
+pub mod LineIsSheet  -- the line of an explanation has the form of a sheet
+pub mod SheetSamples  -- sheets that are read by computation
