@@ -1,19 +1,19 @@
 -- Laws of the fields of a sheet that are shown one a line. Assumes nothing.
 use mathlib.Core.Bool.{Bool, true, false, cond}
-use mathlib.Core.List.{List, [], _∷_, _++_, append-assoc, append-nil}
+use mathlib.Core.List.{List, [], _∷_, _++_, append-assoc}
 use mathlib.Core.Path.{_≡_, refl, sym, ap, _∙_}
 use Prim.Native.Nat.{ℕ, suc, _+_, _-_, _≤_, _<_}
 use native.Mathlib.Numerals.{add-one}
 use native.Mathlib.Omega.{arith}
 use lib.Dec.{eqb}
-use lib.ListN.{drop, length, length-append, length-drop, take}
+use lib.ListN.{drop, length, length-append, take}
 use lib.Seq.{drop-cons, drop-drop}
 use Rattle.records.specs.RecordTexts.{ended}
 use Rattle.script.proofs.Cells.{Written, written-length, written-next}
 use Rattle.script.proofs.FieldPlaces.{end-within, fields-first, no-field}
 use Rattle.script.specs.LineForms.{fields, inFront, tab}
 use Rattle.script.specs.ListingLine.{lineFeed}
-use Rattle.script.specs.NumberRows.{afterTab, fieldEnd, fieldsAfter, untilTab}
+use Rattle.script.specs.NumberRows.{fieldEnd, fieldsAfter, untilTab}
 
 -- They take as many bytes as the sheet, and one more: a line feed for each tab, and the last.
 pub shown-length : (sheet : List ℕ) → length (ended (fields sheet)) ≡ length sheet + 1

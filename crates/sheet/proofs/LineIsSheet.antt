@@ -1,7 +1,7 @@
 -- The theorem that the line of an explanation has the form of a sheet. Assumes nothing.
 use mathlib.Core.Bool.{Bool, true, false, _||_}
 use mathlib.Core.List.{List, [], _∷_, _++_, append-nil}
-use mathlib.Core.Path.{_≡_, refl, ap, _∙_}
+use mathlib.Core.Path.{_≡_, refl, ap}
 use Prim.Native.Nat.{ℕ, _<_, _^_}
 use borrow.Author.Tests.{le-leb}
 use native.Mathlib.Omega.{arith}
@@ -11,7 +11,7 @@ use Rattle.decimal.specs.Write.{decimal}
 use Rattle.explanation.specs.declared.Receiver.the-variants as receiver
 use Rattle.script.proofs.Same.{differ}
 use Rattle.script.specs.Bytes.{bytes, same}
-use Rattle.script.specs.LineForms.{fields, longestLine}
+use Rattle.script.specs.LineForms.{longestLine}
 use Rattle.sheet.specs.SheetClaims.{DenialFits, Fits, LineIsSheet, ReceiverFits, denies, names}
 use Rattle.sheet.specs.SheetForms.{goodForm, isAlone, isEmpty, isGroups, isKind, isNumber, isReceiver, isSheet, isValue}
 use Rattle.sheet.specs.Sheets.{Denial, Absent, By, Explanation, Allowed, Host, Levels, Receiver, group, kindField, receiverField, sheetFields, sheetLine}

@@ -18,14 +18,14 @@ use Rattle.sheet.specs.Verdicts.{sameFields, verdict, verdictLines}
 -- Alone; a receiver or none, and groups, whatever their numbers are.
 unfoldable pub goodSheets : List String
 goodSheets =
-    "allowed" ∷ "host" ∷ "none\t1\t3\t8\tmbec" ∷ "2\t2\t1\t4\tplain" ∷ "1\t1\t0\t1\tplain\t3\t5\t2\tplain"
+    "allowed" ∷ "host" ∷ "none\t1\t3\t8\tmbec" ∷ "2\t2\t1\t4\tplain" ∷ "1\t1\t0\t1\tplain\t3\t5\t2\tplain" ∷ "2\t8\t9\t4\tplain"
     ∷ "18446744073709551615\t0\t0\t0\tmbec" ∷ []
 
--- Empty; a word that is none; a word with more; no group; a group that is cut; `none`, an empty field, a leading zero, 2^64 or a sign in the
+-- Empty; a word that is none; a carriage return; a word with more; no group; a group that is cut; `none`, an empty field, a leading zero, 2^64 or a sign in the
 -- place of a number; a word in the place of `mbec`; a field more; a tab at the end.
 unfoldable pub badSheets : List String
 badSheets =
-    "" ∷ "denied" ∷ "host\t" ∷ "allowed\t1\t3\t8\tmbec" ∷ "none" ∷ "1" ∷ "1\t1\t3\t8" ∷ "1\tnone\t3\t8\tmbec" ∷ "1\t1\t\t8\tmbec"
+    "" ∷ "denied" ∷ "Allowed" ∷ "0allowed" ∷ "host\r" ∷ "3\r\t3\t0\t2\tplain" ∷ "host\t" ∷ "allowed\t1\t3\t8\tmbec" ∷ "none" ∷ "1" ∷ "1\t1\t3\t8" ∷ "1\tnone\t3\t8\tmbec" ∷ "1\t1\t\t8\tmbec"
     ∷ "1\t01\t3\t8\tmbec" ∷ "18446744073709551616\t1\t3\t8\tmbec" ∷ "1\t1\t+3\t8\tmbec" ∷ "1\t1\t3\t8\tMBEC" ∷ "1\t1\t3\t8\tmbec\t2"
     ∷ "1\t1\t3\t8\tmbec\t" ∷ []
 

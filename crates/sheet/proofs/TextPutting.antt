@@ -1,11 +1,11 @@
 -- Laws of a text that is put into a buffer, whole or not at all. Assumes nothing.
 use mathlib.Core.List.{List, [], _++_, append-assoc, append-nil}
-use mathlib.Core.Path.{_≡_, sym, ap, _∙_}
+use mathlib.Core.Path.{_≡_, sym, _∙_}
 use Prim.Native.Nat.{ℕ, _+_, _-_, _≤_}
 use borrow.Rule.Slice.PartMut.{midOf, putMid}
 use native.Mathlib.Omega.{arith}
 use lib.ListN.{drop, length, length-append, length-drop, take}
-use lib.Seq.{drop-drop, drop-length, length-sets, sets, sets-eq, take-all, take-at, take-length}
+use lib.Seq.{drop-drop, drop-length, sets, sets-eq, take-all, take-at, take-length}
 use Rattle.decimal.proofs.TextRoom.{after-room, with-room}
 use Rattle.decimal.specs.Write.{afterText, withText}
 use Rattle.script.proofs.Cells.{Written, written-length}

@@ -1,5 +1,5 @@
 -- How the code goes along the fields of a sheet: from the end of one to the end of the next. Assumes nothing.
-use mathlib.Core.Bool.{Bool, cond}
+use mathlib.Core.Bool.{Bool, true, false, cond}
 use mathlib.Core.List.{List}
 use Prim.Native.Nat.{ℕ, _+_, _-_}
 use lib.Dec.{ltb}
@@ -22,9 +22,13 @@ abbrev pub andThen : Passed → (ℕ → Passed) → Passed
 andThen (To end) next = next end
 andThen Nothing next = Nothing
 
--- The end of a group.
+-- A group is three numbers, and last `mbec` or `plain`; the end of one.
+abbrev pub isPart : Bool → List ℕ → Bool
+isPart true = isKind
+isPart false = isNumber
+
 unfoldable pub groupPassed : List ℕ → ℕ → Passed
 groupPassed sheet at =
-    andThen (passed isNumber sheet at) (λ level.
-    andThen (passed isNumber sheet level) (λ mask.
-    andThen (passed isNumber sheet mask) (passed isKind sheet)))
+    andThen (passed (isPart false) sheet at) (λ level.
+    andThen (passed (isPart false) sheet level) (λ mask.
+    andThen (passed (isPart false) sheet mask) (passed (isPart true) sheet)))

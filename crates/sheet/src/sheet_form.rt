@@ -2,7 +2,7 @@
 ghost use mathlib.Core.Path.{_≡_};
 ghost use Rattle.script.specs.Bytes.{same};
 ghost use Rattle.script.specs.NumberRows.{fieldsAfter};
-ghost use Rattle.sheet.specs.PassedFields.{groupPassed, passed};
+ghost use Rattle.sheet.specs.PassedFields.{groupPassed, isPart, passed};
 ghost use Rattle.sheet.specs.SheetForms.{either, goodForm, isAlone, isGroups, isKind, isNumber, isReceiver};
 use decimal::Number;
 use script::search::find_byte;
@@ -74,31 +74,26 @@ fn is_receiver(field: &[u8]) -> bool
     is_number(field)
 }
 
-// The end of the field after the tab at `at`, where there is one and it is a number.
-fn pass_number(sheet: &[u8], at: usize) -> Passed
-    ensures { λ r. ⌜ r ≡ passed isNumber (now (sheet .entry)) at ⌝ }
+// Whether a field is what stands last in a group, or before that.
+fn is_part(field: &[u8], last: bool) -> bool
+    ensures { λ r. ⌜ r ≡ isPart last (now (field .entry)) ⌝ }
 {
-    if sheet.len() <= at {
-        return Passed::Nothing;
+    if last {
+        return is_kind(field);
     }
-    let start = at + 1;
-    let end = find_byte(sheet, start, b'\t');
-    if is_number(&sheet[start..end]) {
-        return Passed::To(end);
-    }
-    Passed::Nothing
+    is_number(field)
 }
 
-// The same, where it is `mbec` or `plain`.
-fn pass_kind(sheet: &[u8], at: usize) -> Passed
-    ensures { λ r. ⌜ r ≡ passed isKind (now (sheet .entry)) at ⌝ }
+// The end of the field after the tab at `at`, where there is one and it is what stands there in a group.
+fn pass_part(sheet: &[u8], at: usize, last: bool) -> Passed
+    ensures { λ r. ⌜ r ≡ passed (isPart last) (now (sheet .entry)) at ⌝ }
 {
     if sheet.len() <= at {
         return Passed::Nothing;
     }
     let start = at + 1;
     let end = find_byte(sheet, start, b'\t');
-    if is_kind(&sheet[start..end]) {
+    if is_part(&sheet[start..end], last) {
         return Passed::To(end);
     }
     Passed::Nothing
@@ -108,16 +103,16 @@ fn pass_kind(sheet: &[u8], at: usize) -> Passed
 fn pass_group(sheet: &[u8], at: usize) -> Passed
     ensures { λ r. ⌜ r ≡ groupPassed (now (sheet .entry)) at ⌝ }
 {
-    let Passed::To(after_level) = pass_number(sheet, at) else {
+    let Passed::To(after_level) = pass_part(sheet, at, false) else {
         return Passed::Nothing;
     };
-    let Passed::To(after_mask) = pass_number(sheet, after_level) else {
+    let Passed::To(after_mask) = pass_part(sheet, after_level, false) else {
         return Passed::Nothing;
     };
-    let Passed::To(after_wanted) = pass_number(sheet, after_mask) else {
+    let Passed::To(after_wanted) = pass_part(sheet, after_mask, false) else {
         return Passed::Nothing;
     };
-    pass_kind(sheet, after_wanted)
+    pass_part(sheet, after_wanted, true)
 }
 
 // Whether the fields after the tab at `from` are groups, one at least.

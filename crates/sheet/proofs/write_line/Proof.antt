@@ -1,10 +1,10 @@
 -- `write_line` meets its contract: the line is written where it has room, and copied from there with its line feed. Assumes nothing.
-use mathlib.Core.List.{List, [], _∷_, _++_}
+use mathlib.Core.List.{List, [], _∷_}
 use mathlib.Core.Path.{_≡_, refl, sym, ap, _∙_}
-use Prim.Native.Nat.{ℕ, _+_, _≤_, _<_}
+use Prim.Native.Nat.{ℕ, _+_}
 use borrow.Author.Needs.{needs}
 use native.Mathlib.Omega.{arith}
-use lib.ListN.{length, length-set, replicate, set, take}
+use lib.ListN.{length, replicate, set, take}
 use Rattle.records.specs.RecordTexts.{ended}
 use Rattle.script.proofs.Cells.{Written, written-length, written-next}
 use Rattle.script.specs.ListingLine.{lineFeed}

@@ -2,7 +2,6 @@
 use mathlib.Core.Path.{sym, _∙_}
 use borrow.Author.Needs.{needs}
 use borrow.Author.Tests.{not-false, not-true}
-use native.Mathlib.Omega.{arith}
 use Rattle.sheet.proofs.FirstFields.{alone-form, first-length, groups-form, long-form}
 use Rattle.sheet.proofs.sheet_form.good_form.Statement.{statement}
 use Rattle.sheet.proofs.sheet_form.good_form.Tie as tie

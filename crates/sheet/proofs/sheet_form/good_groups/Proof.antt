@@ -1,6 +1,6 @@
 -- `sheet_form::good_groups` meets its contract. The loop's invariant: the fields are groups where those after `at` are. The measure is
 -- what is left of the sheet. Assumes nothing.
-use mathlib.Core.Path.{_≡_, refl, sym, ap, _∙_}
+use mathlib.Core.Path.{_≡_, refl, sym, _∙_}
 use Prim.Native.Nat.{_-_}
 use borrow.Author.Needs.{needs}
 use native.Mathlib.Omega.{arith}

@@ -6,13 +6,13 @@ use Rattle.sheet.proofs.sheet_form.pass_group.Tie as tie
 
 returns : tie.Need-returns
 unfolding groupPassed
-returns c = rw (← c .before .before .pass-number .ensures, c .enum-told .given .1)
+returns c = rw (← c .before .before .pass-part .ensures, c .enum-told .given .1)
 
 returns-2 : tie.Need-returns-2
 unfolding groupPassed
 returns-2 c =
     let one = c .before .before .before .before in
-    rw (← one .before .before .pass-number .ensures, one .after-level .given .1, ← c .before .before .pass-number2 .ensures, c .enum-told2 .given .1)
+    rw (← one .before .before .pass-part .ensures, one .after-level .given .1, ← c .before .before .pass-part2 .ensures, c .enum-told2 .given .1)
 
 returns-3 : tie.Need-returns-3
 unfolding groupPassed
@@ -20,11 +20,11 @@ returns-3 c =
     let two = c .before .before .before .before in
     let one = two .before .before .before .before in
     rw (
-      ← one .before .before .pass-number .ensures,
+      ← one .before .before .pass-part .ensures,
       one .after-level .given .1,
-      ← two .before .before .pass-number2 .ensures,
+      ← two .before .before .pass-part2 .ensures,
       two .after-mask .given .1,
-      ← c .before .before .pass-number3 .ensures,
+      ← c .before .before .pass-part3 .ensures,
       c .enum-told3 .given .1,
     )
 
@@ -35,14 +35,14 @@ returns-4 c =
     let two = three .before .before .before .before in
     let one = two .before .before .before .before in
     rw (
-      ← one .before .before .pass-number .ensures,
+      ← one .before .before .pass-part .ensures,
       one .after-level .given .1,
-      ← two .before .before .pass-number2 .ensures,
+      ← two .before .before .pass-part2 .ensures,
       two .after-mask .given .1,
-      ← three .before .before .pass-number3 .ensures,
+      ← three .before .before .pass-part3 .ensures,
       three .after-wanted .given .1,
     )
-    (c .pass-kind .ensures)
+    (c .pass-part4 .ensures)
 
 pub pass-group-spec : {M : Type 1} → statement M
 pass-group-spec =

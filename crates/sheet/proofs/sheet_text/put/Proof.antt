@@ -1,5 +1,5 @@
 -- `sheet_text::put` meets its contract: the text is copied over the start of what stands from `at` on. Assumes nothing.
-use mathlib.Core.Path.{sym, _∙_}
+use mathlib.Core.Path.{sym}
 use Prim.Native.Nat.{_+_, _≤_}
 use borrow.Author.Needs.{needs}
 use native.Mathlib.Omega.{arith}

@@ -1,19 +1,18 @@
 -- `sheet_text::write_group` meets its contract: nothing of a level that does not deny; else three numbers and a word, each after a tab.
 -- Assumes nothing.
 use mathlib.Core.List.{List, _∷_, _++_}
-use mathlib.Core.Path.{_≡_, refl, sym, ap, _∙_}
+use mathlib.Core.Path.{_≡_, refl}
 use Prim.Native.Nat.{ℕ, _+_, _≤_}
 use borrow.Author.Needs.{needs}
 use native.Mathlib.Omega.{arith}
 use lib.ListN.{length}
-use lib.Seq.{sets}
 use Rattle.decimal.specs.Write.{decimal}
 use Rattle.script.proofs.Cells.{Written, written-next}
 use Rattle.script.specs.LineForms.{tab}
 use Rattle.script.specs.Texts.{parted}
 use Rattle.sheet.proofs.SheetLengths.{group-text}
 use Rattle.sheet.proofs.TextPutting.{first-room, second-room}
-use Rattle.sheet.specs.Sheets.{By, group, kindField}
+use Rattle.sheet.specs.Sheets.{group, kindField}
 use Rattle.sheet.proofs.sheet_text.write_group.Statement.{statement}
 use Rattle.sheet.proofs.sheet_text.write_group.Tie as tie
 

@@ -3,8 +3,7 @@ use mathlib.Core.List.{[], _∷_}
 use mathlib.Core.Path.{refl}
 use borrow.Author.Needs.{needs}
 use native.Mathlib.Omega.{arith}
-use lib.ListN.{length-append}
-use Rattle.script.proofs.Cells.{Written, written-length, written-next}
+use Rattle.script.proofs.Cells.{Written, written-next}
 use Rattle.script.specs.ListingLine.{lineFeed}
 use Rattle.sheet.proofs.TextPutting.{first-room, put-written, second-room}
 use Rattle.sheet.proofs.shown_fields.show_field.Statement.{statement}
