@@ -1,4 +1,4 @@
--- The theorem that the line of an explanation has the form of a sheet. Assumes nothing.
+-- The theorems that the line of an explanation has the form of a sheet, and is right. Assumes nothing.
 use mathlib.Core.Bool.{Bool, true, false, _||_}
 use mathlib.Core.List.{List, [], _∷_, _++_, append-nil}
 use mathlib.Core.Path.{_≡_, refl, ap}
@@ -12,12 +12,14 @@ use Rattle.explanation.specs.declared.Receiver.the-variants as receiver
 use Rattle.script.proofs.Same.{differ}
 use Rattle.script.specs.Bytes.{bytes, same}
 use Rattle.script.specs.LineForms.{longestLine}
-use Rattle.sheet.specs.SheetClaims.{DenialFits, Fits, LineIsSheet, ReceiverFits, denies, names}
+use Rattle.sheet.specs.SheetClaims.{DenialFits, Fits, LineIsSheet, ReceiverFits, RightSheet, denies, names}
 use Rattle.sheet.specs.SheetForms.{goodForm, isAlone, isEmpty, isGroups, isKind, isNumber, isReceiver, isSheet, isValue}
 use Rattle.sheet.specs.Sheets.{Denial, Absent, By, Explanation, Allowed, Host, Levels, Receiver, group, kindField, receiverField, sheetFields, sheetLine}
+use Rattle.sheet.specs.Verdicts.{verdict, verdictLines}
 use Rattle.sheet.proofs.FieldPassing.{restGood}
 use Rattle.sheet.proofs.SheetLengths.{line-length}
 use Rattle.sheet.proofs.SheetReading.{fields-of-line}
+use Rattle.sheet.proofs.VerdictLaws.{fields-itself}
 
 -- Each field is what stands in its place.
 number-good : (n : ℕ) → n < 2 ^ 64 → isNumber (decimal n) ≡ true
@@ -76,3 +78,7 @@ pub line-is-sheet : LineIsSheet
 unfolding goodForm
 line-is-sheet e h n =
     rw (le-leb (length (sheetLine e)) longestLine (omega (arith, line-length e)), fields-of-line e) (sheet-good e h n)
+
+pub right-sheet : RightSheet
+unfolding verdict verdictLines
+right-sheet e h n = rw (line-is-sheet e h n, fields-of-line e, fields-itself (sheetFields e))

@@ -33,7 +33,7 @@ fields-true (a ∷ left) (b ∷ right) h =
     let e : a ≡ b = same-true a b first in
     cc (fields-true left right more)
 
-fields-itself : (fields : List (List ℕ)) → sameFields fields fields ≡ true
+pub fields-itself : (fields : List (List ℕ)) → sameFields fields fields ≡ true
 unfolding sameFields
 fields-itself [] = refl
 fields-itself (a ∷ more) = rw (same-itself a) (fields-itself more)

@@ -1,11 +1,12 @@
 -- What is proved of sheets (02, request 3), each once for all explanations and sheets. Assumes nothing.
 use mathlib.Core.Bool.{Bool, true, false, _||_}
-use mathlib.Core.List.{List}
+use mathlib.Core.List.{List, _∷_}
 use mathlib.Core.Path.{_≡_}
 use Prim.Native.Nat.{ℕ, _<_, _≤_, _^_}
 use lib.ListN.{length}
 use Rattle.explanation.specs.declared.Receiver.the-variants as receiver
-use Rattle.script.specs.Bytes.{same}
+use Rattle.records.specs.RecordTexts.{ended}
+use Rattle.script.specs.Bytes.{bytes, same}
 use Rattle.script.specs.LineForms.{fields}
 use Rattle.sheet.specs.SheetForms.{goodForm}
 use Rattle.sheet.specs.Sheets.{Denial, Absent, By, Explanation, Allowed, Host, Levels, Receiver, longestSheet, sheetFields, sheetLine, sheetText}
@@ -42,6 +43,10 @@ names (Levels by first second third) = denies first || denies second || denies t
 -- The line of an explanation has the form of a sheet.
 abbrev pub LineIsSheet : Type 0
 LineIsSheet = (e : Explanation) → Fits e → names e ≡ true → goodForm (sheetLine e) ≡ true
+
+-- Handed back as a sheet it is right, and is shown by its fields.
+abbrev pub RightSheet : Type 0
+RightSheet = (e : Explanation) → Fits e → names e ≡ true → verdict e (sheetLine e) ≡ ended (bytes "0\t1" ∷ sheetFields e)
 
 -- A sheet is field for field the line of an explanation exactly where it has the same bytes.
 abbrev pub SameByBytes : Type 0
