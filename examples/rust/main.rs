@@ -1,4 +1,4 @@
-//! Runs what is stored for the programs `bench`, `save` and `resume` through the library and holds what it writes to what is stored, cuts
+//! Runs what is stored for the programs `bench`, `save`, `resume` and `explain` through the library and holds what it writes to what is stored, cuts
 //! scripts in two with the machine passed on between the parts, tries a few words of document 001, and times a long script: the file that
 //! the second argument names, or examples over and over. The first argument is the repository.
 
@@ -8,7 +8,8 @@ use std::path::Path;
 use std::time::Instant;
 use std::{env, fs, process};
 use xalevinda::{
-    field, listing, listing_into, resume, resume_into, save, save_into, with_field, Register,
+    explain, explain_into, field, listing, listing_into, resume, resume_into, save, save_into,
+    with_field, Register,
 };
 
 type Checked = Result<(), String>;
@@ -38,6 +39,12 @@ const RESUME: Function = Function {
     program: "resume",
     into: resume_into,
     whole: resume,
+};
+
+const EXPLAIN: Function = Function {
+    program: "explain",
+    into: explain_into,
+    whole: explain,
 };
 
 /// What is written is the stored text, also in a buffer of just its size; a buffer one byte shorter stays as it was.
@@ -241,7 +248,7 @@ fn run() -> Checked {
             .get(1)
             .ok_or("usage: xalevinda REPOSITORY [SCRIPT]")?,
     );
-    for function in [LISTING, SAVE, RESUME] {
+    for function in [LISTING, SAVE, RESUME, EXPLAIN] {
         println!(
             "{} inputs of the program {} give what is stored, and leave a buffer that is too short untouched",
             check_cases(root, &function)?,

@@ -20,6 +20,11 @@ size_t xalevinda_save(const uint8_t *script, size_t script_length, uint8_t *out,
  * follows them. Writes that listing, returns its size and runs as often as xalevinda_listing does. */
 size_t xalevinda_resume(const uint8_t *input, size_t input_length, uint8_t *out, size_t out_length);
 
+/* Reads the records at the start of an input and the access line that follows them, and writes the sheet that says why the access is allowed or
+ * denied, or the verdict on the sheet that follows as the last line: all of it, or nothing where `out_length` is too short. Returns how
+ * many bytes that has: at most 261. */
+size_t xalevinda_explain(const uint8_t *input, size_t input_length, uint8_t *out, size_t out_length);
+
 /* The value of a field of a register's word, and the word with that field replaced by the low bits of `value`. Registers: 0 capabilities,
  * 1 partition status, 2 VP status, 3 partition configuration, 4 secure configuration, 5 code page offsets. Fields that are not reserved
  * are numbered from 0 in the order of document 001. For any other number the value is 0, and the word stays as it is. */

@@ -31,6 +31,12 @@ mod exported {
             out: *mut u8,
             out_length: usize,
         ) -> usize;
+        pub fn xalevinda_explain(
+            input: *const u8,
+            input_length: usize,
+            out: *mut u8,
+            out_length: usize,
+        ) -> usize;
         pub fn xalevinda_field(register: u64, field: u64, word: u64) -> u64;
         pub fn xalevinda_with_field(register: u64, field: u64, word: u64, value: u64) -> u64;
     }
@@ -56,6 +62,12 @@ pub fn save_into(script: &[u8], out: &mut [u8]) -> usize {
 pub fn resume_into(input: &[u8], out: &mut [u8]) -> usize {
     // SAFETY: as in `listing_into`.
     unsafe { exported::xalevinda_resume(input.as_ptr(), input.len(), out.as_mut_ptr(), out.len()) }
+}
+
+/// Writes the sheet of the access line that follows records in the same way, or the verdict on the sheet that follows it.
+pub fn explain_into(input: &[u8], out: &mut [u8]) -> usize {
+    // SAFETY: as in `listing_into`.
+    unsafe { exported::xalevinda_explain(input.as_ptr(), input.len(), out.as_mut_ptr(), out.len()) }
 }
 
 /// What a function writes that needs no more room than this.
@@ -84,6 +96,11 @@ pub fn save(script: &[u8]) -> Vec<u8> {
 /// The listing of an input that begins with records.
 pub fn resume(input: &[u8]) -> Vec<u8> {
     written(resume_into, input, listing_room(input))
+}
+
+/// Why an access is allowed or denied: at most 261 bytes.
+pub fn explain(input: &[u8]) -> Vec<u8> {
+    written(explain_into, input, 261)
 }
 
 /// The value of a field, numbered from 0 in the order of 001 with reserved fields left out; 0 where the register has no such field.

@@ -2,6 +2,7 @@
 // nothing of the system and allocates nothing. examples/rust has the declarations for Rust and C.
 ghost use mathlib.Core.Path.{_≡_};
 ghost use Rattle.decimal.specs.Write.{withText};
+ghost use Rattle.inquiry.specs.Inquiry.{explained};
 ghost use Rattle.listing.specs.Listing.{listing};
 ghost use Rattle.passing.specs.Passing.{resumed, saved};
 ghost use Rattle.word.specs.RegisterFields.{fieldOf, withField};
@@ -44,6 +45,19 @@ pub extern "C" fn xalevinda_resume(input: &[u8], out: &mut [u8]) -> usize
     ensures out { λ _. ⌜ now (out .exit) ≡ withText (now (out .entry)) 0 (resumed (now (input .entry))) ⌝ }
 {
     written::whole(Begins::Records, input, out)
+}
+
+// Why an access is allowed or denied (02, request 3): the sheet of the access line that follows the records of a state, or the verdict on the
+// sheet that follows it. All of it at the start of `out`, or nothing where it has no room. Returns how many bytes it has: at most 261.
+#[no_mangle]
+pub extern "C" fn xalevinda_explain(input: &[u8], out: &mut [u8]) -> usize
+    ensures size { λ r. ⌜ r ≡ sizeOf (explained (now (input .entry))) ⌝ }
+    ensures out { λ _. ⌜ now (out .exit) ≡ withText (now (out .entry)) 0 (explained (now (input .entry))) ⌝ }
+{
+    let mut text = [0u8; sheet::LONGEST_VERDICT];
+    let size = inquiry::explain(input, &mut text);
+    written::put(out, 0, &text[..size]);
+    size
 }
 
 // The value of a field of a register's word. Registers and their used fields are numbered from 0 in the order of 001; any other number
