@@ -3,6 +3,7 @@
 ghost use mathlib.Core.Path.{_≡_};
 ghost use Prim.Native.Nat.{_≤_};
 ghost use lib.ListN.{drop, length};
+ghost use lib.Seq.{sets};
 ghost use Rattle.explanation.specs.Explained.{explanationOf};
 ghost use Rattle.inquiry.specs.AskedLines.{Wrote, rangedBy};
 ghost use Rattle.inquiry.specs.Inquiry.{askedBy, askedOf, explained, sheetWith};
@@ -149,7 +150,9 @@ fn write_with(
 
 // Writes why the access that an input asks for is allowed or denied, and returns how many bytes that takes.
 pub fn explain(input: &[u8], out: &mut [u8; LONGEST_VERDICT]) -> usize
-    ensures { λ r. ⌜ Wrote (explained (now (input .entry))) r (now (out .entry)) (now (out .exit)) ⌝ }
+    ensures wrote { λ r. ⌜ r ≡ length (explained (now (input .entry))) ⌝ }
+    ensures out { λ _. ⌜ now (out .exit) ≡ sets (now (out .entry)) 0 (explained (now (input .entry))) ⌝ }
+    ensures bounds { λ r. ⌜ Wrote (explained (now (input .entry))) r (now (out .entry)) (now (out .exit)) ⌝ }
 {
     let received = reader::read(input);
     if !received.accepted {

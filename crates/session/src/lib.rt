@@ -5,9 +5,8 @@ ghost use mathlib.Core.Path.{_≡_};
 ghost use Prim.Native.Nat.{min};
 ghost use lib.ListN.{length};
 ghost use lib.Seq.{sets};
-ghost use Rattle.session.specs.Session.{Bounds, fed, first, isStopped, lastEnded, later, lentOf, progressOf};
-ghost use Rattle.session.specs.Session.{stopped as stoppedSession};
-ghost use Rattle.session.specs.SessionParts.{EndedBy};
+ghost use Rattle.session.specs.Session.{Bounds, fed, first, isStopped, lastEnded, lastText, later, lentOf};
+ghost use Rattle.session.specs.Session.{progressOf, stopped as stoppedSession};
 ghost use Rattle.state.specs.Lent.{lent};
 use model::machine::Setup;
 use partition::level::Levels;
@@ -191,7 +190,9 @@ pub fn feed(start: Session, chunk: &[u8], out: &mut [u8]) -> Fed
 
 // Ends the input: writes the record of a last line that lacks its line feed, or of an empty input, and says how many bytes that took.
 pub fn finish(session: Session, out: &mut [u8; LONGEST_RECORD]) -> Written
-    ensures ended { λ r. ⌜ EndedBy (lastEnded (progressOf session)) r (now (out .entry)) (now (out .exit)) ⌝ }
+    ensures session { λ r. ⌜ progressOf (r .session) ≡ lastEnded (progressOf session) .progress ⌝ }
+    ensures wrote { λ r. ⌜ r .wrote ≡ length (lastText (progressOf session)) ⌝ }
+    ensures out { λ _. ⌜ now (out .exit) ≡ sets (now (out .entry)) 0 (lastText (progressOf session)) ⌝ }
     ensures bounds { λ r. ⌜ Bounds 0 (r .wrote) [] (now (out .exit)) ⌝ }
 {
     let phase = session.phase;

@@ -11,7 +11,7 @@ slice-aggregate-input : tie.Need-slice-aggregate-input
 slice-aggregate-input c = (rw (c .before .before .n .given .1) at (c .before .before .before .before .before .fill .ensures)) .1
 
 write-explained-requires : tie.Need-write-explained-requires
-write-explained-requires c κs = c .before .explain .ensures .front
+write-explained-requires c κs = c .before .explain .ensures .1 .1 .front
 
 pub explain-spec : {M : Type 1} → statement M
 explain-spec =

@@ -1,21 +1,29 @@
 -- `inquiry::explain` meets its contract: records, the access line, and what follows it. Assumes nothing.
 use mathlib.Core.Bool.{true}
+use mathlib.Core.List.{List}
 use mathlib.Core.Path.{_≡_}
-use Prim.Native.Nat.{_≤_}
+use Prim.Native.Nat.{ℕ, _≤_}
 use borrow.Author.Needs.{needs}
 use borrow.Author.Tests.{not-false, not-true}
 use native.Mathlib.Omega.{arith}
 use lib.ListN.{length}
+use lib.Seq.{sets}
 use Rattle.chunk.proofs.ChunkLines.{end-within}
+use Rattle.inquiry.specs.AskedLines.{Wrote}
 use Rattle.inquiry.proofs.Inquiries.{by-access, no-access, none-read}
 use Rattle.inquiry.proofs.explain.Statement.{statement}
 use Rattle.inquiry.proofs.explain.Tie as tie
+
+-- What was written, in its parts.
+in-parts : {text : List ℕ} {size : ℕ} {before after : List ℕ} → Wrote text size before after
+    → (size ≡ length text) × ((after ≡ sets before 0 text) × Wrote text size before after)
+in-parts w = (w .counted, (w .written, w))
 
 returns : tie.Need-returns
 returns c =
     let test = c .before .before in
     let read = test .before .before in
-    rw (none-read (read .read .result) (read .before .before .args .input .now) (read .read .ensures .0) (not-true _ (test .if1 .taken))) (c .refuse .ensures)
+    rw (none-read (read .read .result) (read .before .before .args .input .now) (read .read .ensures .0) (not-true _ (test .if1 .taken))) (in-parts (c .refuse .ensures))
 
 -- The records were accepted.
 accepted : (c : tie.Else1) → c .before .before .read .result .accepted ≡ true
@@ -25,7 +33,7 @@ returns-2 : tie.Need-returns-2
 returns-2 c =
     let test = c .before .before in
     let read = test .before .before .before in
-    rw (no-access (read .read .result) (read .before .before .args .input .now) (read .read .ensures .0) (accepted (test .before)) (test .if2 .taken)) (c .refuse2 .ensures)
+    rw (no-access (read .read .result) (read .before .before .args .input .now) (read .read .ensures .0) (accepted (test .before)) (test .if2 .taken)) (in-parts (c .refuse2 .ensures))
 
 -- The access line ends within the input.
 ends : (c : tie.After-line-end)
@@ -40,12 +48,12 @@ part-access-line-end c = omega (arith, ends c)
 
 returns-3 : tie.Need-returns-3
 returns-3 c =
-    let told = c .before .before in
-    let line = told .before .before in
+    let nothing = c .before .before in
+    let line = nothing .before .before in
     let found = line .before .before in
     let read = found .before .before .before .before in
-    rw (by-access (read .read .result) (read .before .before .args .input .now) (read .read .ensures .0) (accepted (found .before .before)) (found .line-end .result) (found .line-end .ensures) (omega (arith, found .before .if2 .left)), ← line .access-line .ensures, told .enum-told .given .1)
-    (c .refuse3 .ensures)
+    rw (by-access (read .read .result) (read .before .before .args .input .now) (read .read .ensures .0) (accepted (found .before .before)) (found .line-end .result) (found .line-end .ensures) (omega (arith, found .before .if2 .left)), ← line .access-line .ensures, nothing .enum-told .given .1)
+    (in-parts (c .refuse3 .ensures))
 
 add-at-most : tie.Need-add-at-most
 add-at-most c =
@@ -61,7 +69,7 @@ returns-4 c =
     let found = line .before .before in
     let read = found .before .before .before .before in
     rw (by-access (read .read .result) (read .before .before .args .input .now) (read .read .ensures .0) (accepted (found .before .before)) (found .line-end .result) (found .line-end .ensures) (omega (arith, found .before .if2 .left)), ← line .access-line .ensures, known .vp .given .1, ← mode .mode-of .ensures, ← on .explain-on .ensures, ← c .before .at-most .ensures)
-    (c .write-with .ensures)
+    (in-parts (c .write-with .ensures))
 
 pub explain-spec : {M : Type 1} → statement M
 explain-spec =

@@ -18,7 +18,7 @@ returns c =
     let measured = c .before .before in
     let s = measured .before .before .before .args .session in
     let none = last-none (s .phase) (s .number) (stateIn s) (held (s .line) (s .length)) (rw (← measured .held-length .ensures, ← c .before .is-later .ensures) (c .if1 .taken)) in
-    rw none (record { progress = refl; wrote = refl; written = refl }, record { used-within = omega arith; wrote-within = omega arith; wrote-taken = refl })
+    rw none (refl, (refl, (refl, record { used-within = omega arith; wrote-within = omega arith; wrote-taken = refl })))
 
 returns-2 : tie.Need-returns-2
 returns-2 c =
@@ -29,7 +29,7 @@ returns-2 c =
     let e = c .end-line .ensures in
     let within : c .end-line .result .wrote ≤ length (c .end-line .last .1 .0) =
     omega (arith, e .wrote, ended-at-most (progressOf (a .session)), c .end-line .kept .1 .0, c .before .buffer .given) in
-    rw some (e, record { used-within = omega arith; wrote-within = within; wrote-taken = sym (length-take-le _ _ within) })
+    rw some (e .progress, (e .wrote, (e .written, record { used-within = omega arith; wrote-within = within; wrote-taken = sym (length-take-le _ _ within) })))
 
 pub finish-spec : {M : Type 1} → statement M
 finish-spec = tie.close (tie.spec (λ c κs. tt) (λ c κs. tt) returns (λ c κs. search needs) returns-2)

@@ -9,7 +9,7 @@ write-last-requires : tie.Need-write-last-requires
 write-last-requires c κs =
     let finished = c .before in
     let e = finished .finish .ensures in
-    rw (e .0 .written) (front _ (lastText (progressOf (finished .before .before .args .current))) _ (e .0 .wrote) (rw (e .0 .written) at (e .1 .wrote-within)))
+    rw (e .1 .1 .0) (front _ (lastText (progressOf (finished .before .before .args .current))) _ (e .1 .0) (rw (e .1 .1 .0) at (e .1 .1 .1 .wrote-within)))
 
 pub close-spec : {M : Type 1} → statement M
 close-spec = tie.close (tie.spec (λ c κs. tt) (λ c. search needs) (λ c. search needs) write-last-requires (λ c. search needs))

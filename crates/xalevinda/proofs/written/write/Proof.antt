@@ -65,7 +65,7 @@ returns c =
     let ended = finished .before .before in
     let start = ended .before .before .before .before .before in
     let e = finished .finish .ensures in
-    listed-done (ended .before .loop .inv .1) (bounded start) (ended .loop-test .left) _ (e .0 .wrote) (e .0 .written) (e .1 .wrote-within) (c .added2 .ensures) (put .put2 .ensures)
+    listed-done (ended .before .loop .inv .1) (bounded start) (ended .loop-test .left) _ (e .1 .0) (e .1 .1 .0) (e .1 .1 .1 .wrote-within) (c .added2 .ensures) (put .put2 .ensures)
 
 pub write-spec : {M : Type 1} → statement M
 write-spec =
