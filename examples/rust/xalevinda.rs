@@ -1,4 +1,4 @@
-//! Safe functions over the proved library. `xalevinda.h` has the same declarations for C.
+//! Safe functions over the proved library. `include/xalevinda.h` has the same declarations for C and C++.
 
 /// The registers of document 001 whose words have fields.
 #[derive(Clone, Copy)]

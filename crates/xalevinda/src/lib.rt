@@ -1,5 +1,5 @@
 // The library for other programs: functions over numbers and slices, exported under the names of C. Each takes any arguments, calls
-// nothing of the system and allocates nothing. examples/rust has the declarations for Rust and C.
+// nothing of the system and allocates nothing. include/xalevinda.h declares them for C and C++, examples/rust/xalevinda.rs for Rust.
 ghost use mathlib.Core.Path.{_≡_};
 ghost use Rattle.decimal.specs.Write.{withText};
 ghost use Rattle.inquiry.specs.Inquiry.{explained};
