@@ -1,7 +1,8 @@
 // The program `resume` (02, request 2): reads the records of a state from standard input, answers them as line 0, and goes on, from line 1,
 // with the script without first line that follows them. Records that are refused give the refusal line. Given the names of files, it
-// writes the name and the listing of each; the name - stands for standard input. `resume` and `main` have no contract: they return
-// nothing, and what the arguments and the files hold is open. `passing::open`, `write_line_zero` and the functions of `shell` say what becomes of it.
+// writes the listing of each, from two files on under the file's name; the name - stands for standard input. `resume` and `main` have no
+// contract: they return nothing, and what the arguments and the files hold is open. `passing::open`, `write_line_zero` and the functions of
+// `shell` say what becomes of it.
 ghost use mathlib.Core.Path.{_≡_};
 ghost use Rattle.passing.specs.PassingSessions.{opened};
 use session::LONGEST_RECORD;
@@ -17,13 +18,14 @@ fn write_line_zero(input: &[u8], line: &[u8]) -> bool
 
 // Reads the input from the descriptor to its end, or until its records are refused. Its first 64 KB, or all of it where it is shorter, have
 // the records whole (`ResumedSession` of crate `passing`).
-fn resume(descriptor: i32) {
+fn resume(descriptor: i32, name: &[u8]) {
     let mut chunk = shell::buffer();
-    let Input::Bytes(n) = shell::fill(descriptor, &mut chunk) else {
+    let Input::Bytes(n) = shell::fill(descriptor, name, &mut chunk) else {
         return;
     };
     let mut line = [0u8; LONGEST_RECORD];
     let input = &chunk[..n];
+    shell::hint_records(name, input);
     let opened = passing::open(input, &mut line);
     let wrote = opened.wrote;
     if !write_line_zero(input, &line[..wrote]) {
@@ -41,22 +43,23 @@ fn resume(descriptor: i32) {
         shell::close(next);
         return;
     }
-    shell::run(descriptor, next);
+    shell::run(descriptor, name, next);
 }
 
 fn main() {
     let count = os::arg_count();
     if count < 2 {
-        resume(0);
+        resume(0, b"standard input");
         return;
     }
     let mut name = shell::name_buffer();
     let mut i: usize = 1;
     while i < count {
         let n = os::arg(i, &mut name);
-        let descriptor = shell::open_named(&name[..n]);
+        let file = &name[..n];
+        let descriptor = shell::open_named(file, 2 < count);
         if 0 <= descriptor {
-            resume(descriptor);
+            resume(descriptor, file);
             shell::close_named(descriptor);
         }
         i += 1;

@@ -10,6 +10,16 @@ ghost use Rattle.session.specs.Session.{consumed, fed, isStopped, lastText, pro
 ghost use Rattle.shell.specs.Names.{Within, isInput};
 use session::Session;
 
+mod hints; // what is wrong with a first line
+
+pub use hints::hint;
+pub use hints::hint_end;
+pub use hints::hint_records;
+
+// The launcher opens this descriptor. A program of the language has no exit status: a byte written here tells the launcher that
+// something failed.
+const MARK: i32 = 3;
+
 // The bytes that are read at once, and as many that are written at once. What is done once a call is then spread over thousands of
 // lines.
 pub const BUFFER: usize = 65536;
@@ -37,17 +47,28 @@ fn is_input(name: &[u8]) -> bool
     false
 }
 
-// Writes the name of an input to standard output and opens it: a descriptor, or a negative number where that cannot be, which is told on
-// standard error. Nothing is known of what the system answers.
-pub fn open_named(name: &[u8]) -> i32 {
-    io::write_all(1, name);
-    io::write_all(1, b"\n");
+// Reports a failure on standard error, as `bench: NAME: reason` with the reason that errno has, and leaves the mark. Every failure is
+// reported here. Where the launcher has not opened the mark's descriptor, that write fails, and nothing comes of it.
+fn failed(name: &[u8]) {
+    io::write_all(libc::STDERR_FILENO, b"bench: ");
+    os::fail(name);
+    io::write_all(MARK, b"1");
+}
+
+// Opens an input by its name: a descriptor, or a negative number where that fails, which is reported. Writes the name to standard output
+// first where it is to be shown: it tells the listings of several inputs apart. Nothing is known of what the system answers.
+pub fn open_named(name: &[u8], shown: bool) -> i32 {
+    if shown {
+        if !write_name(name) {
+            return -1;
+        }
+    }
     if is_input(name) {
         return 0;
     }
     let descriptor = os::open_read(name);
     if descriptor < 0 {
-        os::fail(name);
+        failed(name);
     }
     descriptor
 }
@@ -65,25 +86,25 @@ pub enum Input {
     Failed,
 }
 
-// Reads once. A read that fails is told on standard error.
-pub fn read(descriptor: i32, chunk: &mut [u8]) -> Input
+// Reads once. A read that fails is reported under the name of the input.
+pub fn read(descriptor: i32, name: &[u8], chunk: &mut [u8]) -> Input
     ensures { λ r. ⌜ Within r (now (chunk .exit)) ⌝ }
 {
     let got = libc::read(descriptor, chunk);
     if got < 0 {
-        os::fail(b"bench: cannot read the input");
+        failed(name);
         return Input::Failed;
     }
     Input::Bytes(io::count(got, chunk))
 }
 
 // Reads until the buffer is full or the input ends.
-pub fn fill(descriptor: i32, chunk: &mut [u8]) -> Input
+pub fn fill(descriptor: i32, name: &[u8], chunk: &mut [u8]) -> Input
     ensures { λ r. ⌜ Within r (now (chunk .exit)) ⌝ }
 {
     let mut done: usize = 0;
     while done < chunk.len() {
-        let Input::Bytes(n) = read(descriptor, &mut chunk[done..]) else {
+        let Input::Bytes(n) = read(descriptor, name, &mut chunk[done..]) else {
             return Input::Failed;
         };
         if n == 0 {
@@ -94,13 +115,18 @@ pub fn fill(descriptor: i32, chunk: &mut [u8]) -> Input
     Input::Bytes(done)
 }
 
-// Writes bytes to standard output, or says on standard error that it cannot. The answer is the C library's: nothing is known of it.
+// Writes bytes to standard output. A write that fails is reported. The answer is the C library's: nothing is known of it.
 pub fn write(bytes: &[u8]) -> bool {
-    let written = io::write_all(1, bytes);
+    let written = io::write_all(libc::STDOUT_FILENO, bytes);
     if !written {
-        os::fail(b"bench: cannot write the output");
+        failed(b"standard output");
     }
     written
+}
+
+// Writes the name of an input as a line.
+fn write_name(name: &[u8]) -> bool {
+    write(name) && write(b"\n")
 }
 
 // The session after so many bytes of a chunk.
@@ -170,28 +196,31 @@ pub fn close(current: Session) {
 }
 
 // Reads a script, or what is left of it, from the descriptor to its end, feeds it to a session and writes its listing. A read or a write
-// that fails is told on standard error, and ends it. A proved loop has to end, and nothing says that an input does: so it counts down from
+// that fails is reported, and ends it. A first line that is refused gets a hint. A proved loop has to end, and nothing says that an input does: so it counts down from
 // a number that no run uses up. It has no contract: it returns nothing, and which bytes a read puts into the buffer is open. `turn`,
 // `goes_on` and `close` say what becomes of them.
-pub fn run(descriptor: i32, start: Session) {
+pub fn run(descriptor: i32, name: &[u8], start: Session) {
     let mut out = buffer();
     let mut chunk = buffer();
     let mut s = start;
     let mut turns = u64::MAX;
     while turns > 0 {
-        let Input::Bytes(n) = read(descriptor, &mut chunk) else {
+        let Input::Bytes(n) = read(descriptor, name, &mut chunk) else {
             return;
         };
         if n == 0 {
             break;
         }
-        let after = turn(s, &chunk[..n], &mut out);
+        let script = &chunk[..n];
+        let after = turn(s, script, &mut out);
+        let next = after.session;
         if !goes_on(after, n) {
+            hint(name, s, next, script);
             return;
         }
-        let next = after.session;
         s = next;
         turns -= 1;
     }
+    hint_end(name, s);
     close(s);
 }

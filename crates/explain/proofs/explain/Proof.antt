@@ -18,4 +18,4 @@ explain-spec =
     tie.close
     (tie.spec
     (λ c κs. tt) (λ c. search needs) (λ c κs. tt) (λ c. search needs) (λ c. search needs) (λ c. search needs) array-share-prefix-chunk
-    slice-aggregate-input (λ c κs. tt) (λ c. search needs) (λ c. search needs) write-explained-requires (λ c. search needs))
+    slice-aggregate-input (λ c κs. tt) (λ c κs. tt) (λ c. search needs) (λ c. search needs) write-explained-requires (λ c. search needs))

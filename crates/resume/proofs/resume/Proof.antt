@@ -21,7 +21,7 @@ write-line-zero-requires c κs =
 sub-goes-on : tie.Need-sub-goes-on
 sub-goes-on c =
     let read = c .before .before .before .before .before .before .before .before in
-    let known = read .before .before .before .before in
+    let known = read .before .before .before .before .before in
     let size = rw (known .n .given .1) at (known .before .before .before .fill .ensures) in
     omega (arith, read .open .ensures .1 .1 .1 .1 .used-within, size .1)
 
@@ -30,6 +30,6 @@ resume-spec =
     tie.close
     (tie.spec
     (λ c κs. tt) (λ c. search needs) (λ c κs. tt) (λ c. search needs) (λ c. search needs) (λ c. search needs) array-share-prefix-chunk
-    slice-aggregate-input (λ c κs. tt) (λ c. search needs) (λ c. search needs) write-line-zero-requires (λ c. search needs) (λ c κs. tt)
+    slice-aggregate-input (λ c κs. tt) (λ c κs. tt) (λ c. search needs) (λ c. search needs) write-line-zero-requires (λ c. search needs) (λ c κs. tt)
     (λ c. search needs) (λ c. search needs) (λ c. search needs) (λ c κs. tt) sub-goes-on (λ c κs. tt) (λ c. search needs) (λ c κs. tt)
     (λ c. search needs) (λ c κs. tt) (λ c. search needs))

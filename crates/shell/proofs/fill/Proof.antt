@@ -11,10 +11,10 @@ use Rattle.shell.proofs.fill.Statement.{statement}
 use Rattle.shell.proofs.fill.Tie as tie
 
 abbrev Inv-loop : tie.InvT-loop
-Inv-loop descriptor chunk₀ done₀ chunk done = (length chunk ≡ length chunk₀) × (done ≤ length chunk)
+Inv-loop descriptor name chunk₀ done₀ chunk done = (length chunk ≡ length chunk₀) × (done ≤ length chunk)
 
 abbrev μ-loop : tie.MeasureT-loop
-μ-loop descriptor chunk₀ done₀ chunk done = length chunk₀ - done
+μ-loop descriptor name chunk₀ done₀ chunk done = length chunk₀ - done
 
 -- The buffer keeps its length.
 module _ (c : tie.After-read Inv-loop μ-loop) where
@@ -24,8 +24,8 @@ module _ (c : tie.After-read Inv-loop μ-loop) where
   abbrev rest : ℕ
   rest = length (head .loop .chunk) - head .loop .done
 
-  pub whole : length (putMid (head .loop .done) rest (head .loop .chunk) (c .read .last .1 .0)) ≡ length (head .loop .chunk)
-  whole = same-len-mid (head .loop .done) rest (head .loop .chunk) (c .read .last .1 .0) (c .read .kept .1 .0)
+  pub whole : length (putMid (head .loop .done) rest (head .loop .chunk) (c .read .last .1 .1 .0)) ≡ length (head .loop .chunk)
+  whole = same-len-mid (head .loop .done) rest (head .loop .chunk) (c .read .last .1 .1 .0) (c .read .kept .1 .1 .0)
 
 -- What was read lies within what was left.
 read-within : (c : tie.Else1 Inv-loop μ-loop)
@@ -37,11 +37,11 @@ read-within c =
     let within = rw (c .before .before .n .given .1) at (read .read .ensures) in
     let left : length (midOf (head .done) (length (head .chunk) - head .done) (head .chunk)) ≡ length (head .chunk) - head .done =
     ap length (part-whole (head .chunk) (head .done)) ∙ length-drop (head .done) (head .chunk) in
-    omega (arith, within .0, read .read .kept .1 .0, left, head .inv)
+    omega (arith, within .0, read .read .kept .1 .1 .0, left, head .inv)
 
 add-done : tie.Need-add-done Inv-loop μ-loop
 add-done c =
-    let start = c .before .before .before .before .before .before .before .before .before .before .before in
+    let start = c .before .before .before .before .before .before .before .before .before .before .before .before in
     omega (arith, read-within c, start .good)
 
 loop-less : tie.Need-loop-less Inv-loop μ-loop
@@ -60,7 +60,7 @@ returns-3 : tie.Need-returns-3 Inv-loop μ-loop
 returns-3 c =
     let read = c .before .before .before .before .before .before in
     let head = read .before .before .before .loop in
-    let fits : head .done ≤ length (putMid (head .done) (length (head .chunk) - head .done) (head .chunk) (read .read .last .1 .0)) =
+    let fits : head .done ≤ length (putMid (head .done) (length (head .chunk) - head .done) (head .chunk) (read .read .last .1 .1 .0)) =
     omega (arith, whole read, head .inv) in
     (fits, sym (length-take-le _ _ fits))
 

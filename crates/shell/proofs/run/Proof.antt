@@ -6,22 +6,22 @@ use Rattle.shell.proofs.run.Statement.{statement}
 use Rattle.shell.proofs.run.Tie as tie
 
 abbrev Inv-loop : tie.InvT-loop
-Inv-loop descriptor out₀ chunk₀ s₀ turns₀ out chunk s turns = 65536 ≡ length chunk
+Inv-loop descriptor name out₀ chunk₀ s₀ turns₀ out chunk s turns = 65536 ≡ length chunk
 
 abbrev μ-loop : tie.MeasureT-loop
-μ-loop descriptor out₀ chunk₀ s₀ turns₀ out chunk s turns = turns
+μ-loop descriptor name out₀ chunk₀ s₀ turns₀ out chunk s turns = turns
 
 -- As many bytes as were read lie in the buffer.
 array-share-prefix-chunk : tie.Need-array-share-prefix-chunk Inv-loop μ-loop
 array-share-prefix-chunk c = (rw (c .before .before .n .given .1) at (c .before .before .before .before .before .read .ensures)) .0
 
-slice-aggregate-turn : tie.Need-slice-aggregate-turn Inv-loop μ-loop
-slice-aggregate-turn c = (rw (c .before .before .before .n .given .1) at (c .before .before .before .before .before .before .read .ensures)) .1
+slice-aggregate-script : tie.Need-slice-aggregate-script Inv-loop μ-loop
+slice-aggregate-script c = (rw (c .before .before .before .n .given .1) at (c .before .before .before .before .before .before .read .ensures)) .1
 
 pub run-spec : {M : Type 1} → statement M
 run-spec =
     tie.close
     (tie.spec Inv-loop μ-loop
-    (λ c κs. search needs) (λ c κs. search needs) (λ c. search needs) (λ c. search needs) (λ c κs. search needs) (λ c. search needs)
-    (λ c. search needs) (λ c. search needs) array-share-prefix-chunk slice-aggregate-turn (λ c κs. search needs) (λ c κs. search needs)
-    (λ c. search needs) (λ c. search needs) (λ c. search needs) (λ c. search needs) (λ c κs. search needs) (λ c. search needs))
+    (λ c κs. tt) (λ c κs. tt) (λ c. search needs) (λ c. search needs) (λ c κs. tt) (λ c. search needs)
+    (λ c. search needs) (λ c. search needs) array-share-prefix-chunk slice-aggregate-script (λ c κs. tt) (λ c κs. tt) (λ c κs. tt)
+    (λ c. search needs) (λ c. search needs) (λ c. search needs) (λ c. search needs) (λ c κs. tt) (λ c κs. tt) (λ c. search needs))
