@@ -54,9 +54,9 @@ pub extern "C" fn xalevinda_explain(input: &[u8], out: &mut [u8]) -> usize
     ensures size { λ r. ⌜ r ≡ sizeOf (explained (now (input .entry))) ⌝ }
     ensures out { λ _. ⌜ now (out .exit) ≡ withText (now (out .entry)) 0 (explained (now (input .entry))) ⌝ }
 {
-    let mut text = [0u8; sheet::LONGEST_VERDICT];
-    let size = inquiry::explain(input, &mut text);
-    written::put(out, 0, &text[..size]);
+    let mut said = [0u8; sheet::LONGEST_VERDICT];
+    let size = inquiry::explain(input, &mut said);
+    written::put(out, 0, &said[..size]);
     size
 }
 
