@@ -196,9 +196,9 @@ pub fn close(current: Session) {
 }
 
 // Reads a script, or what is left of it, from the descriptor to its end, feeds it to a session and writes its listing. A read or a write
-// that fails is reported, and ends it. A first line that is refused gets a hint. A proved loop has to end, and nothing says that an input does: so it counts down from
-// a number that no run uses up. It has no contract: it returns nothing, and which bytes a read puts into the buffer is open. `turn`,
-// `goes_on` and `close` say what becomes of them.
+// that fails is reported, and ends it. A first line that is refused gets a hint. A proved loop has to end, and nothing says that an input
+// does: so it counts down from a number that no run uses up. It has no contract: it returns nothing, and which bytes a read puts into the
+// buffer is open. `turn`, `goes_on` and `close` say what becomes of them.
 pub fn run(descriptor: i32, name: &[u8], start: Session) {
     let mut out = buffer();
     let mut chunk = buffer();
