@@ -87,3 +87,44 @@ highest-found (suc n) f h = go (f n) refl (highest-found n f) h
     go : (b : Bool) → f n ≡ b → (eqb (highest n f) 0 ≡ false → (highest n f < n) × (f (highest n f) ≡ true)) → eqb (cond b n (highest n f)) 0 ≡ false → (cond b n (highest n f) < suc n) × (f (cond b n (highest n f)) ≡ true)
     go true e r d = (omega arith, e)
     go false e r d = let q = r d in (omega arith, q .1)
+
+-- It is below the bound, and goes by the numbers below it.
+pub highest-le : (n : ℕ) (f : ℕ → Bool) → highest (suc n) f ≤ n
+unfolding highest
+highest-le zero f = cond-holds (λ k. k ≤ 0) (f 0) 0 0 (omega arith) (omega arith)
+highest-le (suc n) f = cond-holds (λ k. k ≤ suc n) (f (suc n)) (suc n) (highest (suc n) f) (omega arith) (omega (arith, highest-le n f))
+
+pub highest-cong : (n : ℕ) (f g : ℕ → Bool) → ((i : ℕ) → i < n → f i ≡ g i) → highest n f ≡ highest n g
+unfolding highest
+highest-cong zero f g h = refl
+highest-cong (suc n) f g h = rw (h n (omega arith), highest-cong n f g (λ i l. h i (omega arith)))
+
+-- Numbers that fail are passed over.
+highest-skip : (n m : ℕ) (f : ℕ → Bool) → m ≤ n → ((k : ℕ) → m ≤ k → k < n → f k ≡ false) → highest n f ≡ highest m f
+unfolding highest
+highest-skip zero m f l h = let e : m ≡ 0 = omega arith in rw e
+highest-skip (suc n) m f l h = go (eqb m (suc n)) refl (λ q. highest-skip n m f q (λ k a b. h k a (omega arith)))
+  where
+    go : (b : Bool) → eqb m (suc n) ≡ b → (m ≤ n → highest n f ≡ highest m f) → cond (f n) n (highest n f) ≡ highest m f
+    go true e r = rw (eqb-true m (suc n) e)
+    go false e r = let ne : (m ≡ suc n → ⊥) = eqb-false m (suc n) e in rw (h n (omega arith) (omega arith)) (r (omega arith))
+
+-- A number that passes, with none above it that does, is what `highest` finds; where none passes it finds 0.
+pub highest-is : (n m : ℕ) (f : ℕ → Bool) → m < n → f m ≡ true → ((k : ℕ) → m < k → k < n → f k ≡ false) → highest n f ≡ m
+unfolding highest
+highest-is n m f l e h = highest-skip n (suc m) f l (λ k a b. h k (omega arith) b) ∙ rw e
+
+pub highest-none : (n : ℕ) (f : ℕ → Bool) → ((k : ℕ) → k < n → f k ≡ false) → highest n f ≡ 0
+unfolding highest
+highest-none n f h = highest-skip n 0 f (omega arith) (λ k a b. h k b)
+
+-- What is above the number that it finds fails.
+pub highest-above : (n : ℕ) (f : ℕ → Bool) (k : ℕ) → highest n f < k → k < n → f k ≡ false
+unfolding highest
+highest-above zero f k l b = absurd (omega arith)
+highest-above (suc n) f k l b = go (f n) refl (eqb k n) refl l (λ q r. highest-above n f k q r)
+  where
+    go : (p : Bool) → f n ≡ p → (d : Bool) → eqb k n ≡ d → cond p n (highest n f) < k → (highest n f < k → k < n → f k ≡ false) → f k ≡ false
+    go true e d s q r = absurd (omega arith)
+    go false e true s q r = rw (eqb-true k n s) e
+    go false e false s q r = let ne : (k ≡ n → ⊥) = eqb-false k n s in r q (omega arith)

@@ -3,15 +3,16 @@ use mathlib.Core.Path.{_≡_}
 use mathlib.Core.Bool.{Bool, true, false, not, _&&_, _||_}
 use mathlib.Core.List.{List, [], _∷_, map}
 use mathlib.Core.Option.{some}
-use Prim.Native.Nat.{ℕ, _≤_, _<_}
+use Prim.Native.Nat.{ℕ, _^_, _≤_, _<_}
 use lib.Dec.{leb, eqb}
 use lib.ListN.{length}
+use Rattle.model.specs.Arrays.{numberAt}
 use Rattle.model.specs.Answers.{Answer, Refusal, numberOf, valueOf, _when_}
 use Rattle.model.specs.Cases.{cases, given, expected}
-use Rattle.model.specs.Entry.{enter, enters, waiting, byInterrupt}
+use Rattle.model.specs.Entry.{enter, enters, isReady, highestReady, topVector, waiting, byInterrupt}
 use Rattle.model.specs.Fresh.{admissible, fresh}
 use Rattle.model.specs.Registers.{rflags, rax, registerOf}
-use Rattle.model.specs.State.{State, FirstLine, Shape, VirtualProcessor, processors, active, enabledOn}
+use Rattle.model.specs.State.{State, Context, FirstLine, Shape, VirtualProcessor, processors, active, enabledOn, isPending}
 use Rattle.model.specs.Updates.{onVp, setPrivate, setRegister}
 use Rattle.model.specs.Step.{Event, Outcome, rule, maker, step}
 use Rattle.model.specs.WellFormed.{wellFormed}
@@ -71,6 +72,15 @@ SharedByAll = (z : Shape) (p : VirtualProcessor) (l m r x : ℕ) → length (p .
 -- RFLAGS.IF plays no part (001): whatever RFLAGS a level has, an interrupt enters the same level, and so does a return.
 abbrev pub FlagsPlayNoPart : Type 0
 FlagsPlayNoPart = (z : Shape) (p : VirtualProcessor) (l x g n : ℕ) → (enters z (setPrivate z p l rflags x) g n ≡ enters z p g n) × (waiting z (setPrivate z p l rflags x) ≡ waiting z p)
+
+-- 02, request 4: the vector of the top set bit of the top non-zero word, if ready, is the highest ready one, and else none is: no vector that is
+-- pending is ready. It holds for every TPR class and for every four words of 64 bits.
+pub record TopVectorDecides (c : Context) : Type 0 where
+  pub ready : isReady c (topVector (c .pending)) ≡ true → highestReady c ≡ topVector (c .pending)
+  pub none : isReady c (topVector (c .pending)) ≡ false → (n : ℕ) → isPending c n ≡ true → isReady c n ≡ false
+
+abbrev pub TopVector : Type 0
+TopVector = (c : Context) → ((i : ℕ) → i < 4 → numberAt 4 (c .pending) i < 2 ^ 64) → TopVectorDecides c
 
 -- The eight proved cases.
 abbrev pub AllGiven : Type 0

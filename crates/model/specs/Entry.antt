@@ -1,9 +1,11 @@
 -- What happens on one processor: entry of a level, call, return and interrupts (01, "Events"). Assumes nothing.
 use mathlib.Core.Bool.{Bool, true, not, cond, _&&_}
-use mathlib.Core.List.{_∷_}
-use Prim.Native.Nat.{ℕ, _+_, _/_, _%_, _^_}
+use mathlib.Core.List.{List, _∷_}
+use Prim.Native.Nat.{ℕ, _+_, _*_, _/_, _%_, _^_}
 use lib.Dec.{ltb, eqb}
 use lib.ListN.{replicate}
+use Rattle.word.specs.Field.{bit}
+use Rattle.model.specs.Arrays.{numberAt}
 use Rattle.model.specs.Bounded.{least, highest}
 use Rattle.model.specs.Registers.{rip, rax, rcx, privateOf, sharedOf}
 use Rattle.model.specs.State.{Context, Control, Shape, VirtualProcessor, noLevel, context, activeOf, enabledAt, isPending, noControl}
@@ -30,6 +32,17 @@ isReady c n = ltb (c .tpr) (n / 16)
 -- The highest ready vector that is pending; 0 if none is. (Vector 0 is never ready.)
 unfoldable pub highestReady : Context → ℕ
 highestReady c = highest 256 (λ n. isPending c n && isReady c n)
+
+-- The manual's order of four pending words (02, request 4): "the top set bit of the top non-zero word". First that word's number, then the number of
+-- that bit in a word of 64, then the vector of that bit. Each is 0 where there is none. `TopVector` of Claims.antt ties it to `highestReady`.
+unfoldable pub topWord : List ℕ → ℕ
+topWord words = highest 4 (λ i. not (eqb (numberAt 4 words i) 0))
+
+unfoldable pub topBit : ℕ → ℕ
+topBit word = highest 64 (bit word)
+
+unfoldable pub topVector : List ℕ → ℕ
+topVector words = 64 * topWord words + topBit (numberAt 4 words (topWord words))
 
 -- The next enabled level up.
 unfoldable pub nextUp : Shape → VirtualProcessor → ℕ

@@ -131,10 +131,6 @@ wordPut z p l k x = altered z p l (updated k x)
 abbrev pub levelEnabled : List ℕ → ℕ → List ℕ
 levelEnabled ws l = set ws enabled (put l 1 (getD ws enabled 0) 1)
 
--- A level's vectors alone: what the search for the highest ready one reads.
-abbrev pub vectorsOf : ℕ → List ℕ → Context
-vectorsOf class words = record { registers = []; tpr = class; pending = words; secure = []; control = noControl }
-
 -- Level t's lock in the configuration of level l is cleared.
 abbrev pub lockCleared : Shape → VirtualProcessor → ℕ → ℕ → VirtualProcessor
 lockCleared z p t l = setSecure z p t l (put lockBit 1 (numberAt 4 (context z p t .secure) l) 0)
