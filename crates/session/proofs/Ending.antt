@@ -9,12 +9,11 @@ use native.Mathlib.Omega.{arith}
 use lib.Dec.{eqb, ltb}
 use lib.ListN.{drop, getD, length, length-replicate, length-take, replicate, replicate-append-replicate, take}
 use lib.Seq.{length-take-le, take-all, take-at}
-use Rattle.model.proofs.Bools.{and-right}
 use Rattle.model.proofs.FreshFormed.{few-pages}
 use Rattle.model.proofs.Keeps.{step-keeps}
-use Rattle.model.specs.Answers.{numberOf, refusalNumber, valueOf}
+use Rattle.model.specs.Answers.{refusalNumber}
 use Rattle.model.specs.Fresh.{admissible, fresh}
-use Rattle.model.specs.State.{isIndex, State, active, activeOf, isProcessor, level, noVp, pastVp, processors, vp}
+use Rattle.model.specs.State.{State, level, pastVp}
 use Rattle.model.specs.Step.{Outcome, nextFor, step}
 use Rattle.model.specs.WellFormed.{wellFormed}
 use Rattle.model.specs.declared.answer.Answer.{Answer}
@@ -36,9 +35,10 @@ use Rattle.step.proofs.KnownFormed.{step-as-if}
 use Rattle.step.specs.Stepped.{stepIf}
 use Rattle.session.specs.declared.Phase.{Phase}
 use Rattle.session.specs.declared.Phase.the-variants as phase
-use Rattle.listing.specs.Answer.{levelOn, levelShown, shownBy, shownOf}
+use Rattle.listing.proofs.LevelShown.{event-shown, level-column}
+use Rattle.listing.specs.Answer.{levelOn, shownBy, shownOf}
 use Rattle.listing.specs.Listing.{answered, numberAfter, recordOf, stateBy}
-use Rattle.model.specs.LevelColumn.{levelColumn, processorOf}
+use Rattle.model.specs.LevelColumn.{processorOf}
 use Rattle.session.specs.SessionParts.{blankIn, hasStopped, isLater}
 use Rattle.session.specs.Session.{Progress, begun, continued, ended, extended, first, isStopped, kept, lastEnded, later, lentOf, progressIn, roomFor, stopped}
 use Rattle.chunk.specs.Chunk.{held}
@@ -72,29 +72,10 @@ fresh-words f h =
 pub words-back : (words lent : List ℕ) (k : ℕ) → k ≤ length words → length lent ≡ length (take k words) → take k (lent ++ drop k words) ≡ lent
 words-back words lent k h e = take-at lent (drop k words) k (e ∙ length-take-le k words h)
 
--- The level that is active on a processor, as the code reads it.
-active-read : (s : State) (v : Processor)
-    → levelOn v (s .machine .processors) (getD (s .machine .vps) (v .0 % 4) pastVp .active) ≡ level (active s (v .0))
-unfolding active activeOf vp isProcessor processors
-active-read s v = go (isIndex (s .machine .processors) (v .0)) refl
-  where
-    go : (t : Bool) → isIndex (s .machine .processors) (v .0) ≡ t
-        → cond t (getD (s .machine .vps) (v .0 % 4) pastVp .active) (level 0) ≡ level (cond t (getD (s .machine .vps) (v .0) pastVp) noVp .active .0)
-    go true e = let h : v .0 % 4 ≡ v .0 = omega (arith, ltb-true (v .0) 4 (and-right (ltb (v .0) (s .machine .processors)) (ltb (v .0) 4) e)) in rw h
-    go false e = refl
-
 -- A state that is not well formed stays as it is.
 refused-next : (s : State) (e : Event) → wellFormed s ≡ false → step s e .next ≡ s
 unfolding step nextFor
 refused-next s e w = rw w
-
--- What is shown of an answer, as the code has it.
-level-column : (number active : ℕ) → levelShown number (level active) ≡ level (cond (eqb number 1) 0 active)
-level-column number active = go (eqb number 1)
-  where
-    go : (t : Bool) → cond t (level 0) (level active) ≡ level (cond t 0 active)
-    go true = refl
-    go false = refl
 
 -- The end of a first line that is malformed, and of one that is not admissible or is.
 pub first-malformed : (line : List ℕ) (refusal : Refusal) → lineFirst line ≡ start.Malformed refusal → ended (first line) ≡ begun none
@@ -145,11 +126,7 @@ module _ (s next : State) (e : Event) (formed : Bool) (well : formed ≡ wellFor
     pub told-shown : (v : Processor) → v ≡ processorOf e
         → (on : Level) → on ≡ levelOn v (next .machine .processors) (getD (next .machine .vps) (v .0 % 4) pastVp .active)
         → shownOf a on ≡ shownBy (answered s (parsed.Event e))
-    told-shown v here on there =
-        let column : levelShown (numberOf a) on ≡ level (levelColumn (record { answer = a; next = next }) (processorOf e)) =
-        rw (there, active-read next v, ← here) (level-column (numberOf a) (active next (v .0))) in
-        ap (λ (l : Level). record { answer = numberOf a; value = valueOf a; level = l }) column
-        ∙ ap (λ (o : Outcome). record { answer = numberOf (o .answer); value = valueOf (o .answer); level = level (levelColumn o (processorOf e)) }) stepped
+    told-shown v here on there = event-shown s next e a stepped v here on there
 
 -- At the end of a script: a later line that has no bytes, and any other line.
 pub last-none : (p : Phase) (number : ℕ) (s : State) (line : List ℕ) → (isLater p && eqb (length line) 0) ≡ true
