@@ -1,7 +1,8 @@
 //! Runs what is stored for the programs `bench`, `save`, `resume` and `explain` through the library and holds what it writes to what is stored, cuts
-//! scripts in two with the machine passed on between the parts, tries a few words of document 001, and times a long script: the file that
-//! the second argument names, or examples over and over. The first argument is the repository.
+//! scripts in two with the machine passed on between the parts, runs the stored scripts in lockstep, tries a few words of document 001, and times a
+//! long script: the file that the second argument names, or examples over and over. The first argument is the repository.
 
+mod lockstep;
 mod xalevinda;
 
 use std::path::Path;
@@ -68,9 +69,14 @@ fn check_text(name: &str, function: &Function, input: &[u8], stored: &[u8]) -> C
     Ok(())
 }
 
-/// The inputs that a program is held to in the gate: `args` names them, `-` for `stdin`. `stdout` has each name and then what is written.
-fn check_cases(root: &Path, function: &Function) -> Result<usize, String> {
-    let folder = root.join("crates").join(function.program);
+/// The inputs that a program is held to in the gate: `args` names them, `-` for `stdin`. `stdout` has each name and then what is written. A check
+/// gets the name, the input and what is stored.
+fn check_stored(
+    root: &Path,
+    program: &str,
+    mut check: impl FnMut(&str, &[u8], &[u8]) -> Checked,
+) -> Result<usize, String> {
+    let folder = root.join("crates").join(program);
     let text = |name| String::from_utf8(read(&folder.join(name))?).map_err(|e| e.to_string());
     let (names, stored) = (text("args")?, text("stdout")?);
     let mut rest = stored.as_str();
@@ -90,10 +96,27 @@ fn check_cases(root: &Path, function: &Function) -> Result<usize, String> {
             "-" => folder.join("stdin"),
             _ => folder.join("data").join(name),
         };
-        check_text(name, function, &read(&input)?, rest[..end].as_bytes())?;
+        check(name, &read(&input)?, rest[..end].as_bytes())?;
         rest = &rest[end..];
     }
     Ok(names.lines().count())
+}
+
+fn check_cases(root: &Path, function: &Function) -> Result<usize, String> {
+    check_stored(root, function.program, |name, input, stored| {
+        check_text(name, function, input, stored)
+    })
+}
+
+/// The stored scripts in lockstep: how many there are, and how many lines were answered.
+fn check_lockstep(root: &Path) -> Result<(usize, usize), String> {
+    let mut lines = 0;
+    let scripts = check_stored(root, LISTING.program, |name, script, stored| {
+        lines += lockstep::check(name, script, stored)?;
+        Ok(())
+    })?;
+    lockstep::check_slices()?;
+    Ok((scripts, lines))
 }
 
 /// The scripts of examples/, each beside its listing.
@@ -268,10 +291,15 @@ fn run() -> Checked {
     );
     check_code_page_offsets()?;
     println!("code page offsets are written into a word and read back");
-    time_listings(&match arguments.get(2) {
+    let (scripts, lines) = check_lockstep(root)?;
+    println!("{scripts} scripts in lockstep, {lines} lines one by one, give what is stored");
+    let script = match arguments.get(2) {
         Some(name) => read(Path::new(name))?,
         None => long_script(root)?,
-    })
+    };
+    time_listings(&script)?;
+    lockstep::time(&script);
+    Ok(())
 }
 
 fn main() {

@@ -37,6 +37,20 @@ mod exported {
             out: *mut u8,
             out_length: usize,
         ) -> usize;
+        pub fn xalevinda_open(
+            line: *const u8,
+            line_length: usize,
+            machine: *mut u64,
+            machine_words: usize,
+        ) -> u64;
+        pub fn xalevinda_step(
+            machine: *mut u64,
+            machine_words: usize,
+            line: *const u8,
+            line_length: usize,
+            shown: *mut u64,
+            shown_words: usize,
+        ) -> u64;
         pub fn xalevinda_field(register: u64, field: u64, word: u64) -> u64;
         pub fn xalevinda_with_field(register: u64, field: u64, word: u64, value: u64) -> u64;
     }
@@ -113,4 +127,70 @@ pub fn field(register: Register, field: u64, word: u64) -> u64 {
 pub fn with_field(register: Register, field: u64, word: u64, value: u64) -> u64 {
     // SAFETY: the function takes numbers only.
     unsafe { exported::xalevinda_with_field(register as u64, field, word, value) }
+}
+
+/// How many words a machine takes in lockstep, and how many a step shows.
+pub const MACHINE_WORDS: usize = 836;
+pub const SHOWN_WORDS: usize = 3;
+
+/// Makes the fresh machine of a first line in words, and returns 0; or returns the number of the reason why there is none, and no word changes.
+pub fn open_in(line: &[u8], machine: &mut [u64]) -> u64 {
+    // SAFETY: as in `listing_into`.
+    unsafe {
+        exported::xalevinda_open(line.as_ptr(), line.len(), machine.as_mut_ptr(), machine.len())
+    }
+}
+
+/// Answers a line after the first on the words of a machine. `shown` gets value, level and the number of the reason.
+pub fn step_in(machine: &mut [u64], line: &[u8], shown: &mut [u64]) -> u64 {
+    // SAFETY: as in `listing_into`, for three slices.
+    unsafe {
+        exported::xalevinda_step(
+            machine.as_mut_ptr(),
+            machine.len(),
+            line.as_ptr(),
+            line.len(),
+            shown.as_mut_ptr(),
+            shown.len(),
+        )
+    }
+}
+
+/// What a line is answered: number, value and level as a listing shows them, and the number of the reason.
+#[derive(Clone, Copy, Debug, PartialEq, Eq)]
+pub struct Reply {
+    pub answer: u64,
+    pub value: u64,
+    pub level: u64,
+    pub reason: u64,
+}
+
+/// A machine in lockstep with other code. A copy is a second machine.
+#[derive(Clone, PartialEq, Eq)]
+pub struct Machine {
+    words: [u64; MACHINE_WORDS],
+}
+
+impl Machine {
+    /// The fresh machine of a first line, or the number of the reason why there is none.
+    pub fn open(line: &[u8]) -> Result<Machine, u64> {
+        let mut words = [0; MACHINE_WORDS];
+        match open_in(line, &mut words) {
+            0 => Ok(Machine { words }),
+            reason => Err(reason),
+        }
+    }
+
+    /// Answers a line after the first, given without its line feed.
+    pub fn step(&mut self, line: &[u8]) -> Reply {
+        let mut shown = [0; SHOWN_WORDS];
+        let answer = step_in(&mut self.words, line, &mut shown);
+        let [value, level, reason] = shown;
+        Reply {
+            answer,
+            value,
+            level,
+            reason,
+        }
+    }
 }

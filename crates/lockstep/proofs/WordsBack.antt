@@ -8,7 +8,7 @@ use lib.Seq.{append-snoc, take-add, take-all, take-suc}
 use Rattle.model.specs.declared.machine.Setup.{Setup}
 use Rattle.partition.specs.PartitionView.{partitionOf}
 use Rattle.processor.proofs.RecordWords.{row-length}
-use Rattle.processor.specs.Record.{contextIn, contextOf, part, rowOf, vpOf}
+use Rattle.processor.specs.Record.{contextIn, contextOf, part, rowOf, vpOf, vpsOf}
 use Rattle.state.specs.Lent.{lent, machineOf}
 use Rattle.lockstep.specs.MachineWords.{PartSizes, contextWords, flat, levelsOf, partsOf, recordOf, recordsOf, rowsOf}
 
@@ -77,7 +77,7 @@ pub parts-back : (setup : Setup) (levels masks : List ℕ) (vps : List (List ℕ
     → partsOf (lent setup levels masks vps words) ≡ levels ++ masks ++ flat vps ++ words
 unfolding partsOf machineOf partitionOf recordsOf
 parts-back setup levels masks vps words sizes =
-    ap (λ (l : List ℕ). l ++ masks ++ recordsOf (vpOf (getD vps 0 []) ∷ vpOf (getD vps 1 []) ∷ vpOf (getD vps 2 []) ∷ vpOf (getD vps 3 []) ∷ []) ++ words)
+    ap (λ (l : List ℕ). l ++ masks ++ recordsOf (vpsOf vps) ++ words)
     (levels-back levels masks (sizes .levels-length))
     ∙ rw (
       record-back (getD vps 0 []) (sizes .first-length),

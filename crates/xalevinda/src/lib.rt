@@ -4,6 +4,8 @@ ghost use mathlib.Core.Path.{_≡_};
 ghost use Rattle.decimal.specs.Write.{withText};
 ghost use Rattle.inquiry.specs.Inquiry.{explained};
 ghost use Rattle.listing.specs.Listing.{listing};
+ghost use Rattle.lockstep.specs.Lockstep.{opened, shownAfter, stepped};
+ghost use Rattle.lockstep.specs.MachineWords.{stateIn};
 ghost use Rattle.passing.specs.Passing.{resumed, saved};
 ghost use Rattle.word.specs.RegisterFields.{fieldOf, withField};
 ghost use Rattle.xalevinda.specs.Exports.{sizeOf};
@@ -58,6 +60,33 @@ pub extern "C" fn xalevinda_explain(input: &[u8], out: &mut [u8]) -> usize
     let size = inquiry::explain(input, &mut said);
     written::put(out, 0, &said[..size]);
     size
+}
+
+// Lockstep: makes the fresh machine of a first line (01, "Script and listing") in the words of `machine`. Returns 0, or the number of the reason
+// why there is none: fewer than lockstep::MACHINE_WORDS words, a malformed line, or numbers that are not admissible. Then no word changes.
+#[no_mangle]
+pub extern "C" fn xalevinda_open(line: &[u8], machine: &mut [u64]) -> u64
+    ensures reason { λ r. ⌜ r ≡ opened (now (line .entry)) (now (machine .entry)) .reason ⌝ }
+    ensures words { λ _. ⌜ now (machine .exit) ≡ opened (now (line .entry)) (now (machine .entry)) .words ⌝ }
+    ensures state { λ _. ⌜ stateIn (now (machine .exit)) ≡ opened (now (line .entry)) (now (machine .entry)) .state ⌝ }
+{
+    lockstep::open(line, machine)
+}
+
+// Lockstep: answers one line after the first on the words of `machine`, whatever they hold. Returns the number of the answer; `shown` gets its
+// value, the level column and the number of the reason. A slice that is too short gets answer 1 and no word of the machine changes.
+#[no_mangle]
+pub extern "C" fn xalevinda_step(machine: &mut [u64], line: &[u8], shown: &mut [u64]) -> u64
+    ensures answer { λ r. ⌜ r
+        ≡ stepped (now (machine .entry)) (now (line .entry)) (now (shown .entry)) .reply .answer ⌝ }
+    ensures words { λ _. ⌜ now (machine .exit)
+        ≡ stepped (now (machine .entry)) (now (line .entry)) (now (shown .entry)) .words ⌝ }
+    ensures state { λ _. ⌜ stateIn (now (machine .exit))
+        ≡ stepped (now (machine .entry)) (now (line .entry)) (now (shown .entry)) .state ⌝ }
+    ensures shown { λ _. ⌜ now (shown .exit)
+        ≡ shownAfter (now (machine .entry)) (now (line .entry)) (now (shown .entry)) ⌝ }
+{
+    lockstep::step(machine, line, shown)
 }
 
 // The value of a field of a register's word. Registers and their used fields are numbered from 0 in the order of 001; any other number

@@ -5,24 +5,6 @@ use borrow.Author.Needs.{needs}
 use Rattle.lockstep.proofs.answer_line.Statement.{statement}
 use Rattle.lockstep.proofs.answer_line.Tie as tie
 
-parse-requires : tie.Need-parse-requires
-parse-requires c κs = search needs
-
-enum-known-parsed : tie.Need-enum-known-parsed
-enum-known-parsed c = search needs
-
-answer-event-requires : tie.Need-answer-event-requires
-answer-event-requires c κs = search needs
-
-enum-known-parsed-2 : tie.Need-enum-known-parsed-2
-enum-known-parsed-2 c = search needs
-
-told-requires : tie.Need-told-requires
-told-requires c κs = search needs
-
-same-length : tie.Need-same-length
-same-length c = search needs
-
 returns : tie.Need-returns
 returns c =
     let parsed = c .before .before .before .before .before in
@@ -39,11 +21,5 @@ pub answer-line-spec : {M : Type 1} → statement M
 answer-line-spec =
     tie.close
     (tie.spec
-    parse-requires
-    enum-known-parsed
-    answer-event-requires
-    enum-known-parsed-2
-    told-requires
-    same-length
-    returns
-    returns-2)
+    (λ c κs. search needs) (λ c. search needs) (λ c κs. search needs) (λ c. search needs) (λ c κs. search needs)
+    (λ c. search needs) returns returns-2)

@@ -10,16 +10,13 @@ returns : tie.Need-returns
 unfolding steppedIn
 returns c = rw (lt-ltb _ _ (c .if1 .taken)) (record { reply = refl; words = refl; state = refl })
 
-answer-line-requires : tie.Need-answer-line-requires
-answer-line-requires c κs = search needs
-
-same-length : tie.Need-same-length
-same-length c = search needs
-
 returns-2 : tie.Need-returns-2
 unfolding steppedIn
 returns-2 c =
     rw (le-ltb _ _ (c .before .before .before .before .if1 .left)) (c .before .before .answer-line .ensures)
 
 pub answer-words-spec : {M : Type 1} → statement M
-answer-words-spec = tie.close (tie.spec returns answer-line-requires same-length returns-2)
+answer-words-spec =
+    tie.close
+    (tie.spec
+    returns (λ c κs. search needs) (λ c. search needs) returns-2)

@@ -10,21 +10,6 @@ returns : tie.Need-returns
 unfolding opened
 returns c = rw (lt-ltb _ _ (c .if1 .taken)) (refl, (refl, refl))
 
-parse-first-requires : tie.Need-parse-first-requires
-parse-first-requires c κs = search needs
-
-enum-known-start : tie.Need-enum-known-start
-enum-known-start c = search needs
-
-refusal-reason-requires : tie.Need-refusal-reason-requires
-refusal-reason-requires c κs = search needs
-
-enum-known-start-2 : tie.Need-enum-known-start-2
-enum-known-start-2 c = search needs
-
-admissible-requires : tie.Need-admissible-requires
-admissible-requires c κs = search needs
-
 returns-2 : tie.Need-returns-2
 unfolding opened
 returns-2 c =
@@ -48,9 +33,6 @@ returns-3 c =
     rw (le-ltb _ _ (parsed .before .if1 .left), sym (parsed .parse-first .ensures) ∙ told .start .given .1)
     (c .refusal-reason .ensures, (refl, refl))
 
-same-length : tie.Need-same-length
-same-length c = search needs
-
 returns-4 : tie.Need-returns-4
 unfolding opened
 returns-4 c =
@@ -69,14 +51,5 @@ pub open-spec : {M : Type 1} → statement M
 open-spec =
     tie.close
     (tie.spec
-    returns
-    parse-first-requires
-    enum-known-start
-    refusal-reason-requires
-    enum-known-start-2
-    admissible-requires
-    returns-2
-    open-first-requires
-    returns-3
-    same-length
-    returns-4)
+    returns (λ c κs. search needs) (λ c. search needs) (λ c κs. search needs) (λ c. search needs)
+    (λ c κs. search needs) returns-2 open-first-requires returns-3 (λ c. search needs) returns-4)

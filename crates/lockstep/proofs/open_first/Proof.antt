@@ -10,9 +10,6 @@ use borrow.Author.Needs.{needs}
 use Rattle.lockstep.proofs.open_first.Statement.{statement}
 use Rattle.lockstep.proofs.open_first.Tie as tie
 
-store-setup-requires : tie.Need-store-setup-requires
-store-setup-requires c κs = search needs
-
 array-share-prefix-zeros : tie.Need-array-share-prefix-zeros
 array-share-prefix-zeros c = few-pages _ (c .before .before .before .before .before .before .pre .1)
 
@@ -26,40 +23,24 @@ store-words-requires c κs =
     let size = length-take-le {A = ℕ} (start .args .first .pages) (replicate 64 0) few in
     omega arith
 
-fresh-levels-requires : tie.Need-fresh-levels-requires
-fresh-levels-requires c κs = search needs
-
-fresh-masks-requires : tie.Need-fresh-masks-requires
-fresh-masks-requires c κs = search needs
-
-fresh-record-requires : tie.Need-fresh-record-requires
-fresh-record-requires c κs = search needs
-
-store-parts-requires : tie.Need-store-parts-requires
-store-parts-requires c κs = search needs
-
-same-length : tie.Need-same-length
-same-length c = search needs
-
 returns : tie.Need-returns
 returns c =
-    let start = c .before .before .before .before .before .before .before .before .before .before .before .before .before .before .before .before .before .before .before .before in
-    let stored = c .before .before .store-parts .ensures in
-    machine-opened (start .args .first) (start .pre .1) (start .args .machine .now) (start .pre .0) (c .before .before .before .before .before .before .before .before .before .fresh-levels .result) (c .before .before .before .before .before .before .before .before .fresh-masks .result)
-    (c .before .before .before .before .before .before .before .fresh-record .result) (stored .1) (c .before .before .before .before .before .before .before .before .before .fresh-levels .ensures) (c .before .before .before .before .before .before .before .before .fresh-masks .ensures) (c .before .before .before .before .before .before .before .fresh-record .ensures) _
-    (rw (c .before .before .before .before .before .before .before .before .before .before .before .before .store-words .ensures, c .before .before .before .before .before .before .before .before .before .before .before .before .before .before .before .before .before .store-setup .ensures) at (stored .0))
+    let stored = c .before .before in
+    let vp = stored .before .before .before .before .before in
+    let masks = vp .before in
+    let levels = masks .before in
+    let words = levels .before .before .before in
+    let setup = words .before .before .before .before .before in
+    let start = setup .before .before .before in
+    machine-opened (start .args .first) (start .pre .1) (start .args .machine .now) (start .pre .0) (levels .fresh-levels .result)
+    (masks .fresh-masks .result) (vp .fresh-record .result) (stored .store-parts .ensures .1) (levels .fresh-levels .ensures)
+    (masks .fresh-masks .ensures) (vp .fresh-record .ensures) _
+    (rw (words .store-words .ensures, setup .store-setup .ensures) at (stored .store-parts .ensures .0))
 
 pub open-first-spec : {M : Type 1} → statement M
 open-first-spec =
     tie.close
     (tie.spec
-    store-setup-requires
-    array-share-prefix-zeros
-    slice-aggregate-store-words
-    store-words-requires
-    fresh-levels-requires
-    fresh-masks-requires
-    fresh-record-requires
-    store-parts-requires
-    same-length
+    (λ c κs. search needs) array-share-prefix-zeros slice-aggregate-store-words store-words-requires
+    (λ c κs. search needs) (λ c κs. search needs) (λ c κs. search needs) (λ c κs. search needs) (λ c. search needs)
     returns)

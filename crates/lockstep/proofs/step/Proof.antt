@@ -12,18 +12,6 @@ returns : tie.Need-returns
 unfolding shownAfter stepped
 returns c = rw (lt-ltb _ _ (c .if1 .taken)) (refl, (refl, (refl, refl)))
 
-answer-words-requires : tie.Need-answer-words-requires
-answer-words-requires c κs = search needs
-
-store-shown-requires : tie.Need-store-shown-requires
-store-shown-requires c κs = search needs
-
-same-length : tie.Need-same-length
-same-length c = search needs
-
-same-length-2 : tie.Need-same-length-2
-same-length-2 c = search needs
-
 returns-2 : tie.Need-returns-2
 unfolding shownAfter stepped
 returns-2 c =
@@ -44,9 +32,4 @@ pub step-spec : {M : Type 1} → statement M
 step-spec =
     tie.close
     (tie.spec
-    returns
-    answer-words-requires
-    store-shown-requires
-    same-length
-    same-length-2
-    returns-2)
+    returns (λ c κs. search needs) (λ c κs. search needs) (λ c. search needs) (λ c. search needs) returns-2)

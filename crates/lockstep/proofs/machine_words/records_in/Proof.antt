@@ -3,18 +3,6 @@ use borrow.Author.Needs.{needs}
 use Rattle.lockstep.proofs.machine_words.records_in.Statement.{statement}
 use Rattle.lockstep.proofs.machine_words.records_in.Tie as tie
 
-record-in-requires : tie.Need-record-in-requires
-record-in-requires c κs = search needs
-
-record-in-requires-2 : tie.Need-record-in-requires-2
-record-in-requires-2 c κs = search needs
-
-record-in-requires-3 : tie.Need-record-in-requires-3
-record-in-requires-3 c κs = search needs
-
-record-in-requires-4 : tie.Need-record-in-requires-4
-record-in-requires-4 c κs = search needs
-
 returns : tie.Need-returns
 returns c = rw (c .before .before .before .record-in .ensures, c .before .before .record-in2 .ensures, c .before .record-in3 .ensures, c .record-in4 .ensures)
 
@@ -22,8 +10,4 @@ pub records-in-spec : {M : Type 1} → statement M
 records-in-spec =
     tie.close
     (tie.spec
-    record-in-requires
-    record-in-requires-2
-    record-in-requires-3
-    record-in-requires-4
-    returns)
+    (λ c κs. search needs) (λ c κs. search needs) (λ c κs. search needs) (λ c κs. search needs) returns)
