@@ -7,7 +7,8 @@
  * What a freestanding program has to bring: memcpy and memset of the C library, and nothing else of it. The functions allocate nothing and
  * call nothing of the system. The code is position-independent. As the calling convention allows, it uses SSE2 registers and the 128
  * bytes below the stack pointer (the red zone), so a handler that interrupts it must leave both as they are. The deepest call,
- * xalevinda_save, takes 214 KB of stack, so 256 KB are enough (counted in the machine code, not proved). */
+ * xalevinda_save, takes 214 KB of stack, so 256 KB are enough; for xalevinda_open and xalevinda_step 16 KB are (counted in the machine
+ * code, not proved). */
 #ifndef XALEVINDA_H
 #define XALEVINDA_H
 
