@@ -6,3 +6,4 @@ pub mod WordsBack  -- the words of a state that stands in parts
 pub mod StateStored  -- the words of a machine after its parts were stored
 pub mod LineTold  -- a line that was answered
 pub mod OpenedMachine  -- a machine that was opened
+pub mod LockstepRun  -- the claims: a refusal, and a run in lockstep

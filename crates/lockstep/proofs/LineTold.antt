@@ -1,15 +1,15 @@
 -- What the code has of a line that was answered on the words of a machine, against the definitions. Assumes nothing.
 use mathlib.Core.Bool.{Bool, true, false, cond}
-use mathlib.Core.List.{List, [], _∷_, _++_, append-assoc}
+use mathlib.Core.List.{List, _++_, append-assoc}
 use mathlib.Core.Path.{_≡_, refl, sym, ap, _∙_}
-use Prim.Native.Nat.{ℕ, _+_, _-_, _%_, _≤_, min}
+use Prim.Native.Nat.{ℕ, _+_, _-_, _%_, _≤_}
 use native.Mathlib.Omega.{arith}
 use borrow.Rule.Slice.PartMut.{midOf, putMid}
 use lib.Dec.{eqb}
-use lib.ListN.{drop, getD, length, length-take, length-drop, take}
-use lib.Seq.{drop-drop, length-sets, length-take-le, sets, sets-eq}
+use lib.ListN.{drop, getD, length, length-drop, take}
+use lib.Seq.{drop-drop, length-take-le, sets, sets-eq}
 use Rattle.listing.proofs.LevelShown.{event-shown, level-column}
-use Rattle.listing.specs.Answer.{levelOn, levelShown}
+use Rattle.listing.specs.Answer.{levelOn}
 use Rattle.listing.specs.Listing.{answered}
 use Rattle.listing.specs.declared.Shown.{Shown}
 use Rattle.model.specs.Answers.{refusalNumber}
@@ -25,7 +25,7 @@ use Rattle.model.specs.declared.quantity.Level.{Level}
 use Rattle.model.specs.declared.quantity.Processor.{Processor}
 use Rattle.processor.specs.Record.{part}
 use Rattle.script.specs.declared.Parsed.the-variants as said
-use Rattle.state.specs.Lent.{lent, machineOf}
+use Rattle.state.specs.Lent.{lent}
 use Rattle.lockstep.specs.Lockstep.{replyBy, steppedBy}
 use Rattle.lockstep.specs.LockstepParts.{AnsweredIn, replyOf}
 use Rattle.lockstep.specs.MachineWords.{PartSizes, flat, lentWords, partsOf, recordsIn, setupIn, stateIn}
@@ -98,15 +98,15 @@ module _ (ws : List ℕ) (room : 836 ≤ length ws) (e : Event) (a : Answer) (se
     event-told v here on there r is =
         record { reply = is ∙ told-reply v here on there; words = told-words; state = told-state }
 
--- A malformed line: the words stay.
-module _ (ws : List ℕ) (room : 836 ≤ length ws) (refusal : Refusal) where
+-- The words of the state that the words stand for are these.
+module _ (ws : List ℕ) (room : 836 ≤ length ws) where
   at : (place n : ℕ) → place + n ≤ 836 → sets ws place (part place n ws) ≡ ws
   at place n h = put-back ws place n (omega arith)
 
   size : (place n : ℕ) → place + n ≤ 836 → length (part place n ws) ≡ n
   size place n h = part-length ws place n (omega arith)
 
-  same-words : sets ws 6 (partsOf (stateIn ws)) ≡ ws
+  pub same-words : sets ws 6 (partsOf (stateIn ws)) ≡ ws
   unfolding stateIn
   same-words =
       let sizes : PartSizes (part 6 6 ws) (part 12 256 ws) (recordsIn ws) = record {
@@ -125,16 +125,17 @@ module _ (ws : List ℕ) (room : 836 ≤ length ws) (refusal : Refusal) where
       ∙ rw (at 6 6 (omega arith), at 12 256 (omega arith), at 268 126 (omega arith), at 394 126 (omega arith), at 520 126 (omega arith))
       (at 646 126 (omega arith))
 
-  pub malformed-told : (r : Reply) → r ≡ replyOf (Refused refusal) (level 0) → AnsweredIn (steppedBy ws (said.Malformed refusal)) r ws
-  malformed-told r is = record {
-    reply =
-        is
-        ∙ ap (λ (l : Level). record { answer = refusalNumber refusal; value = 0; level = l; reason = reasonNumber (Refused refusal) })
-        (level-column (refusalNumber refusal) 0 ∙ zero (eqb (refusalNumber refusal) 1));
-    words = sym same-words;
-    state = refl;
-  }
-    where
-      zero : (t : Bool) → level (cond t 0 0) ≡ level 0
-      zero true = refl
-      zero false = refl
+-- A malformed line: the words stay.
+pub malformed-told : (ws : List ℕ) → 836 ≤ length ws → (refusal : Refusal) (r : Reply) → r ≡ replyOf (Refused refusal) (level 0) → AnsweredIn (steppedBy ws (said.Malformed refusal)) r ws
+malformed-told ws room refusal r is = record {
+  reply =
+      is
+      ∙ ap (λ (l : Level). record { answer = refusalNumber refusal; value = 0; level = l; reason = reasonNumber (Refused refusal) })
+      (level-column (refusalNumber refusal) 0 ∙ zero (eqb (refusalNumber refusal) 1));
+  words = sym (same-words ws room);
+  state = refl;
+}
+  where
+    zero : (t : Bool) → level (cond t 0 0) ≡ level 0
+    zero true = refl
+    zero false = refl

@@ -1,6 +1,6 @@
 -- The words of a machine that was opened by an admissible first line: they are those of the fresh machine, and stand for it. Assumes nothing.
-use mathlib.Core.Bool.{Bool, true, cond, _&&_}
-use mathlib.Core.List.{List, [], _∷_, _++_}
+use mathlib.Core.Bool.{Bool, true, _&&_}
+use mathlib.Core.List.{List, _∷_, _++_}
 use mathlib.Core.Path.{_≡_, refl, sym, ap, _∙_}
 use Prim.Native.Nat.{ℕ, zero, suc, _+_, _≤_, _<_, min}
 use native.Mathlib.Omega.{arith}
@@ -15,10 +15,9 @@ use Rattle.model.specs.Masks.{validMask}
 use Rattle.model.specs.State.{State, inRange}
 use Rattle.model.specs.Updates.{withMasks}
 use Rattle.model.specs.declared.machine.FirstLine.{FirstLine}
-use Rattle.model.specs.declared.machine.Machine.{Machine}
 use Rattle.model.specs.declared.machine.Setup.{Setup}
 use Rattle.partition.specs.PartitionView.{partitionOf}
-use Rattle.processor.specs.Record.{part, vpOf}
+use Rattle.processor.specs.Record.{vpOf}
 use Rattle.state.proofs.FreshMachine.{fresh-machine}
 use Rattle.state.specs.Lent.{lent, setupOf}
 use Rattle.lockstep.specs.LockstepParts.{OpenedAs, setupSaid}

@@ -2,4 +2,5 @@
 pub mod MachineWords  -- the state that the words stand for, and the words of a state
 pub mod ReasonNumbers  -- the numbers of the reasons
 pub mod Lockstep  -- what opening a machine and one line on it give
+pub mod LockstepClaims  -- what is proved of lockstep
 pub mod LockstepParts  -- what the code's parts give

@@ -3,7 +3,7 @@
 use mathlib.Core.Bool.{Bool, cond, _&&_}
 use mathlib.Core.List.{List, [], _∷_, _++_}
 use mathlib.Core.Path.{_≡_}
-use Prim.Native.Nat.{ℕ, _+_, min}
+use Prim.Native.Nat.{ℕ, _+_, _*_, min}
 use lib.Dec.{leb, eqb}
 use lib.ListN.{getD, length}
 use Rattle.model.specs.State.{State, level}
@@ -51,6 +51,17 @@ wordsAt = 772
 abbrev pub machineWords : ℕ
 machineWords = 836
 
+-- The words of the levels, and the masks.
+abbrev pub levelCount : ℕ
+levelCount = 6
+
+abbrev pub maskCount : ℕ
+maskCount = 256
+
+-- The most pages.
+abbrev pub mostPages : ℕ
+mostPages = 64
+
 -- Both flags, Dr6Shared and SMEP, are 0 or 1.
 abbrev pub flagsKnown : List ℕ → Bool
 flagsKnown ws = leb (getD ws dr6SharedAt 0) 1 && leb (getD ws smepAt 0) 1
@@ -74,10 +85,10 @@ setupIn ws = record {
 
 -- The record of processor v, and all four.
 abbrev pub recordIn : List ℕ → ℕ → List ℕ
-recordIn ws place = part place recordWords ws
+recordIn ws v = part (recordsAt + recordWords * v) recordWords ws
 
 abbrev pub recordsIn : List ℕ → List (List ℕ)
-recordsIn ws = recordIn ws 268 ∷ recordIn ws 394 ∷ recordIn ws 520 ∷ recordIn ws 646 ∷ []
+recordsIn ws = recordIn ws 0 ∷ recordIn ws 1 ∷ recordIn ws 2 ∷ recordIn ws 3 ∷ []
 
 -- The words of four records, one after the other.
 abbrev pub flat : List (List ℕ) → List ℕ
@@ -85,8 +96,8 @@ flat vps = getD vps 0 [] ++ getD vps 1 [] ++ getD vps 2 [] ++ getD vps 3 []
 
 -- How many words each part has.
 pub record PartSizes (levels masks : List ℕ) (vps : List (List ℕ)) : Type 0 where
-  pub levels-length : length levels ≡ 6
-  pub masks-length : length masks ≡ 256
+  pub levels-length : length levels ≡ levelCount
+  pub masks-length : length masks ≡ maskCount
   pub first-length : length (getD vps 0 []) ≡ recordWords
   pub second-length : length (getD vps 1 []) ≡ recordWords
   pub third-length : length (getD vps 2 []) ≡ recordWords
@@ -94,10 +105,10 @@ pub record PartSizes (levels masks : List ℕ) (vps : List (List ℕ)) : Type 0 
 
 -- The state that the words stand for. There are words for 64 pages; those of the first P are lent.
 abbrev pub lentWords : List ℕ → ℕ
-lentWords ws = min (getD ws pagesAt 0) 64
+lentWords ws = min (getD ws pagesAt 0) mostPages
 
 unfoldable pub stateIn : List ℕ → State
-stateIn ws = lent (setupIn ws) (part levelsAt 6 ws) (part masksAt 256 ws) (recordsIn ws) (part wordsAt (lentWords ws) ws)
+stateIn ws = lent (setupIn ws) (part levelsAt levelCount ws) (part masksAt maskCount ws) (recordsIn ws) (part wordsAt (lentWords ws) ws)
 
 -- The words of what a processor holds of one level, and of a processor's record (specs/Record.antt of crate `processor`).
 unfoldable pub contextWords : Context → List ℕ

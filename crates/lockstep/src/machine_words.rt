@@ -2,10 +2,10 @@
 ghost use mathlib.Core.List.{_++_};
 ghost use mathlib.Core.Path.{_≡_};
 ghost use Prim.Native.Nat.{_+_, _≤_};
-ghost use lib.ListN.{getD, length};
+ghost use lib.ListN.{length};
 ghost use lib.Seq.{sets};
-ghost use Rattle.lockstep.specs.MachineWords.{levelsAt, machineWords, masksAt, processorsIn, recordIn};
-ghost use Rattle.lockstep.specs.MachineWords.{PartSizes, flat, lentWords, recordsIn, setupIn, wordsAt};
+ghost use Rattle.lockstep.specs.MachineWords.{PartSizes, flat, lentWords, levelCount, levelsAt, machineWords};
+ghost use Rattle.lockstep.specs.MachineWords.{maskCount, masksAt, processorsIn, recordsIn, setupIn, wordsAt};
 ghost use Rattle.lockstep.specs.LockstepParts.{setupSaid};
 ghost use Rattle.processor.specs.Record.{part, recordWords};
 use model::machine::FirstLine;
@@ -37,11 +37,11 @@ const MASKS: usize = 12;
 
 const FIRST_RECORD: usize = 268;
 
-const SECOND_RECORD: usize = 394;
+const SECOND_RECORD: usize = FIRST_RECORD + RECORD_WORDS;
 
-const THIRD_RECORD: usize = 520;
+const THIRD_RECORD: usize = SECOND_RECORD + RECORD_WORDS;
 
-const FOURTH_RECORD: usize = 646;
+const FOURTH_RECORD: usize = THIRD_RECORD + RECORD_WORDS;
 
 pub(crate) const WORDS: usize = 772;
 
@@ -122,7 +122,7 @@ pub(crate) fn words_end(machine: &[u64]) -> usize
 // What the words hold of the levels, of the masks, and of a processor at a place.
 pub(crate) fn levels_in(machine: &[u64]) -> Levels
     requires { ⌜ machineWords ≤ length (now machine) ⌝ }
-    ensures { λ r. ⌜ r ≡ part levelsAt 6 (now (machine .entry)) ⌝ }
+    ensures { λ r. ⌜ r ≡ part levelsAt levelCount (now (machine .entry)) ⌝ }
 {
     let mut levels = [0u64; 6];
     store_words(&mut levels, 0, &machine[LEVELS..MASKS]);
@@ -131,7 +131,7 @@ pub(crate) fn levels_in(machine: &[u64]) -> Levels
 
 pub(crate) fn masks_in(machine: &[u64]) -> Masks
     requires { ⌜ machineWords ≤ length (now machine) ⌝ }
-    ensures { λ r. ⌜ r ≡ part masksAt 256 (now (machine .entry)) ⌝ }
+    ensures { λ r. ⌜ r ≡ part masksAt maskCount (now (machine .entry)) ⌝ }
 {
     let mut masks = [0u64; 256];
     store_words(&mut masks, 0, &machine[MASKS..FIRST_RECORD]);
@@ -140,7 +140,7 @@ pub(crate) fn masks_in(machine: &[u64]) -> Masks
 
 fn record_in(machine: &[u64], place: usize) -> Record
     requires { ⌜ place + recordWords ≤ length (now machine) ⌝ }
-    ensures { λ r. ⌜ r ≡ recordIn (now (machine .entry)) place ⌝ }
+    ensures { λ r. ⌜ r ≡ part place recordWords (now (machine .entry)) ⌝ }
 {
     let mut record = [0u64; RECORD_WORDS];
     let end = place + RECORD_WORDS;
