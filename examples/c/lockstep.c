@@ -89,7 +89,7 @@ static size_t lockstep(Hypervisor *h, Model *model, size_t events) {
 /* Slices that are too short, and words that are no machine, are answered, and nothing changes. */
 static void check_edges(void) {
     Model model, before;
-    uint8_t line[1];
+    const uint8_t line[1] = {0};
     model_open(&model);
     before = model;
     if (xalevinda_open((const uint8_t *)FIRST_LINE, strlen(FIRST_LINE), model.words, XALEVINDA_MACHINE_WORDS - 1)
