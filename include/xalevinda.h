@@ -2,7 +2,8 @@
  * convention of x86-64 Linux. Their contracts are in crates/xalevinda/src/lib.rt.
  *
  * Any lengths, bytes and numbers may be given. A pointer is never null, also where its length is 0, and what a function writes (`out`,
- * `machine`, `shown`) overlaps nothing else that it is handed. The library has no data of its own that changes, so several threads may call it at once.
+ * `machine`, `shown`) overlaps nothing else that it is handed. The library has no data of its own that changes, so several threads may call
+ * it at once.
  *
  * What a freestanding program has to bring: memcpy and memset of the C library, and nothing else of it. The functions allocate nothing and
  * call nothing of the system. The code is position-independent. As the calling convention allows, it uses SSE2 registers and the 128
@@ -47,8 +48,8 @@ enum xalevinda_answer {
     XALEVINDA_NO_READY_VECTOR = 13     /* ack with no vector ready or RFLAGS bit 9 clear */
 };
 
-/* The reasons: one for each condition of the rules. A number once given stays. A later request that adds a condition gives it the next
- * number, so take a number that is not listed here for a reason that is newer than this header. Below 16 stands what is no refusal of a rule. */
+/* The reasons: one for each condition of the rules. A number once given stays, and a condition that is added later gets the next one. So a
+ * number that is not listed here is a reason newer than this header. Below 16 stands what is no refusal of a rule. */
 enum xalevinda_reason {
     XALEVINDA_REASON_NONE = 0,                        /* the event took place, or the machine was opened */
     XALEVINDA_REASON_INTERCEPTED = 1,                 /* an intercept; the value is the receiving level */
@@ -136,16 +137,16 @@ size_t xalevinda_resume(const uint8_t *input, size_t input_length, uint8_t *out,
  * Returns how many bytes that has: at most XALEVINDA_LONGEST_EXPLANATION. */
 size_t xalevinda_explain(const uint8_t *input, size_t input_length, uint8_t *out, size_t out_length);
 
-/* Lockstep: a machine in words that the caller owns, so that a hypervisor's own tests can run beside the model event by event. The words need
- * no closing and may be copied; their order is no part of this interface, so only hand them back. A line has no line feed. Any words get
- * an answer: those that stand for no well-formed state get answer 1, and no word changes.
+/* Lockstep: a machine in words that the caller owns, so that a hypervisor's own tests can run beside the model event by event. The words
+ * need no closing and may be copied. Which word is which is no part of this interface: only hand them back. A line has no line feed.
  *
- * xalevinda_open makes the fresh machine of a first line (vsm ..) in `machine` and returns XALEVINDA_REASON_NONE, or returns why there is none and
- * leaves all words as they were.
+ * xalevinda_open makes the fresh machine of a first line (vsm ..) in `machine` and returns XALEVINDA_REASON_NONE. Or it returns why there
+ * is none, and all words stay as they were.
  *
  * xalevinda_step answers one line after the first, as the listing of a script does, and returns the answer. Where the event is done or
- * intercepted `machine` holds the next state; at any other answer it stays as it was. `shown` gets the words of xalevinda_shown. Where either is
- * too short the answer is XALEVINDA_MALFORMED and the machine stays as it was; `shown` too, if it is the one that is too short. */
+ * intercepted `machine` holds the next state; at any other answer it stays as it was. `shown` gets the words of xalevinda_shown. Words that
+ * stand for no well-formed state are answered XALEVINDA_MALFORMED. So is a call with too few words in `machine` or `shown`; where `shown` has
+ * too few it stays as it was too. */
 uint64_t xalevinda_open(const uint8_t *line, size_t line_length, uint64_t *machine, size_t machine_words);
 uint64_t xalevinda_step(uint64_t *machine, size_t machine_words, const uint8_t *line, size_t line_length, uint64_t *shown,
                         size_t shown_words);

@@ -50,11 +50,13 @@ module _ (at n : ℕ) where
       )
       (take-at xs (drop (at + length xs) l) n e)
 
+-- Equal parts make equal states.
 same-lent : {setup setup′ : Setup} {levels levels′ masks masks′ a a′ b b′ c c′ d d′ words words′ : List ℕ} → setup ≡ setup′
     → levels ≡ levels′ → masks ≡ masks′ → a ≡ a′ → b ≡ b′ → c ≡ c′ → d ≡ d′ → words ≡ words′
     → lent setup levels masks (a ∷ b ∷ c ∷ d ∷ []) words ≡ lent setup′ levels′ masks′ (a′ ∷ b′ ∷ c′ ∷ d′ ∷ []) words′
 same-lent p l m a b c d w = λ i. lent (p i) (l i) (m i) (a i ∷ b i ∷ c i ∷ d i ∷ []) (w i)
 
+-- The parts of a machine, stored into words.
 module _ (ws : List ℕ) (levels masks : List ℕ) (vps : List (List ℕ)) (words : List ℕ) (sizes : PartSizes levels masks vps) where
   abbrev a : List ℕ
   a = getD vps 0 []
