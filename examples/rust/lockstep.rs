@@ -4,7 +4,7 @@
 use crate::xalevinda::{open_in, step_in, Machine, Reply, MACHINE_WORDS, SHOWN_WORDS};
 use std::time::Instant;
 
-/// The reasons that are no refusals, that of words that are no machine, and the first number of a refusal (include/xalevinda.h).
+/// The reasons that are no refusals, and the first number of a refusal (include/xalevinda.h).
 const NO_REASON: u64 = 0;
 const INTERCEPTED: u64 = 1;
 const SHORT_SLICE: u64 = 2;
@@ -90,7 +90,10 @@ pub fn time(script: &[u8]) {
         return;
     };
     let start = Instant::now();
-    let done = lines[1..].iter().filter(|line| machine.step(line).answer == 0).count();
+    let done = lines[1..]
+        .iter()
+        .filter(|line| machine.step(line).answer == 0)
+        .count();
     let seconds = start.elapsed().as_secs_f64();
     println!(
         "{} lines in {seconds:.3} s in lockstep, {:.0} lines a second, {done} done",

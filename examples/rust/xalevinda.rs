@@ -137,7 +137,12 @@ pub const SHOWN_WORDS: usize = 3;
 pub fn open_in(line: &[u8], machine: &mut [u64]) -> u64 {
     // SAFETY: as in `listing_into`.
     unsafe {
-        exported::xalevinda_open(line.as_ptr(), line.len(), machine.as_mut_ptr(), machine.len())
+        exported::xalevinda_open(
+            line.as_ptr(),
+            line.len(),
+            machine.as_mut_ptr(),
+            machine.len(),
+        )
     }
 }
 
