@@ -1,7 +1,7 @@
 -- No field of a reason has a tab or a line feed, and a line has room. Assumes nothing.
 use mathlib.Core.Bool.{Bool, true, false, _&&_}
-use mathlib.Core.List.{List, [], _∷_, _++_, append-assoc}
-use mathlib.Core.Path.{_≡_, refl, ap}
+use mathlib.Core.List.{List, [], _∷_, _++_, append-assoc, append-nil}
+use mathlib.Core.Path.{_≡_, refl, sym, ap, _∙_}
 use Prim.Native.Nat.{ℕ, _+_, _≤_}
 use borrow.Author.Tests.{leb-true}
 use native.Mathlib.Omega.{arith}
@@ -13,7 +13,7 @@ use Rattle.decimal.specs.Write.{decimal}
 use Rattle.explanation.specs.declared.Receiver.the-variants as receiver
 use Rattle.reason.specs.ReasonClaims.{ShortReasoned}
 use Rattle.reason.specs.ReasonNames.{Refusal, reasonName, refusals}
-use Rattle.reason.specs.Reasons.{Reason, fieldsOf, reasonedLine}
+use Rattle.reason.specs.Reasons.{Reason, fieldsOf, reasonEnd, reasonedLine, reasonedText}
 use Rattle.reason.specs.declared.Reason.the-variants as reason
 use Rattle.reason.proofs.NameLaws.{each-name}
 use Rattle.records.proofs.SameBytes.{digits-no-feed, no-feed-append, noFeed}
@@ -22,9 +22,10 @@ use Rattle.script.proofs.Naming.{noTab}
 use Rattle.script.proofs.Parted.{no-tab-number}
 use Rattle.script.proofs.Same.{every}
 use Rattle.script.specs.LineForms.{tab}
+use Rattle.script.specs.ListingLine.{lineFeed}
 use Rattle.script.specs.Texts.{parted, together}
 use Rattle.sheet.proofs.SheetLengths.{line-length}
-use Rattle.sheet.specs.Sheets.{Denial, Absent, By, Explanation, Allowed, Host, Levels, Receiver, group, kindField, receiverField, sheetFields, sheetLine}
+use Rattle.sheet.specs.Sheets.{Denial, Absent, By, Explanation, Allowed, Host, Levels, Receiver, group, kindField, receiverField, sheetFields, sheetLine, sheetText}
 
 -- No tab and no line feed.
 abbrev pub plain : List ℕ → Bool
@@ -130,3 +131,29 @@ short-reasoned number answer value level why =
       text-length level,
       short-fields why,
     )
+
+-- What ends a line: nothing but the line feed, a name, or a sheet.
+pub end-named : (r : Refusal) → reasonEnd (reason.Named r) ≡ tab ∷ reasonName r ++ lineFeed ∷ []
+unfolding fieldsOf parted
+end-named r = ap (λ (l : List ℕ). tab ∷ l ++ lineFeed ∷ []) (append-nil (reasonName r))
+
+pub end-denied : (e : Explanation) → reasonEnd (reason.Denied e) ≡ tab ∷ sheetText e
+unfolding fieldsOf sheetText ended
+end-denied e = ap (λ (l : List ℕ). l ++ lineFeed ∷ []) (sheet-parted e)
+
+pub end-length : (why : Reason) → length (reasonEnd why) ≤ 172
+end-length why = omega (arith, length-append (parted (fieldsOf why)) (lineFeed ∷ []), short-fields why)
+
+-- A line in the pieces in which it is written.
+pub line-pieces : (number answer value level : ℕ) (why : Reason)
+    → reasonedText number answer value level why ≡ (((decimal number ++ (tab ∷ decimal answer)) ++ (tab ∷ decimal value)) ++ (tab ∷ decimal level)) ++ reasonEnd why
+unfolding ended reasonedLine
+line-pieces number answer value level why =
+    ap (λ (l : List ℕ). l ++ lineFeed ∷ [])
+    (next (decimal number) (decimal answer) (decimal value ∷ decimal level ∷ fieldsOf why)
+    ∙ next (decimal number ++ (tab ∷ decimal answer)) (decimal value) (decimal level ∷ fieldsOf why)
+    ∙ next ((decimal number ++ (tab ∷ decimal answer)) ++ (tab ∷ decimal value)) (decimal level) (fieldsOf why))
+    ∙ append-assoc (((decimal number ++ (tab ∷ decimal answer)) ++ (tab ∷ decimal value)) ++ (tab ∷ decimal level)) (parted (fieldsOf why)) (lineFeed ∷ [])
+  where
+    next : (before field : List ℕ) (more : List (List ℕ)) → before ++ parted (field ∷ more) ≡ (before ++ (tab ∷ field)) ++ parted more
+    next before field more = unfold parted in (sym (append-assoc before (tab ∷ field) (parted more)))

@@ -17,7 +17,7 @@ use Rattle.model.specs.declared.answer.Refusal.{Refusal}
 use Rattle.model.specs.declared.event.Event.{Event}
 use Rattle.reason.specs.ReasonNames.{namedAmong, reasonName, refusals}
 use Rattle.reason.specs.ReasonedListing.{cutToFour, reasoned}
-use Rattle.reason.specs.Reasons.{Reason, lineWith, longestReasoned, reasonFields, reasonedLine}
+use Rattle.reason.specs.Reasons.{Reason, lineWith, longestReasoned, reasonFields, reasonedText}
 use Rattle.reason.specs.declared.Reason.the-variants as reason
 use Rattle.records.specs.RecordTexts.{ended}
 use Rattle.script.specs.declared.Parsed.{Parsed}
@@ -59,4 +59,4 @@ ListingKept = (script : List ℕ) → cutToFour (reasoned script) ≡ listing sc
 
 -- A buffer that always has room for a line.
 abbrev pub ShortReasoned : Type 0
-ShortReasoned = (number answer value level : ℕ) (why : Reason) → length (ended (reasonedLine number answer value level why ∷ [])) ≤ longestReasoned
+ShortReasoned = (number answer value level : ℕ) (why : Reason) → length (reasonedText number answer value level why) ≤ longestReasoned

@@ -1,7 +1,7 @@
 -- Why a line got its answer. Demand 1 of 01: each refusal stands for a stated condition, and its name is the reason. For a denied access
 -- the reason is the line of 02, request 3. The state is the one before the line. Assumes nothing.
 use mathlib.Core.Bool.{Bool, cond, _||_}
-use mathlib.Core.List.{List, [], _∷_}
+use mathlib.Core.List.{List, [], _∷_, _++_}
 use Prim.Native.Nat.{ℕ}
 use lib.Dec.{eqb}
 use Rattle.asked.specs.AskedAccess.{askedBy}
@@ -21,8 +21,10 @@ use Rattle.reason.specs.declared.Cause.{Cause}
 use Rattle.reason.specs.declared.Cause.the-variants as cause
 pub use Rattle.reason.specs.declared.Reason.{Reason}
 use Rattle.reason.specs.declared.Reason.the-variants as reason
+use Rattle.records.specs.RecordTexts.{ended}
 use Rattle.script.specs.Bytes.{bytes}
-use Rattle.script.specs.Texts.{together}
+use Rattle.script.specs.ListingLine.{lineFeed}
+use Rattle.script.specs.Texts.{parted, together}
 use Rattle.script.specs.declared.Parsed.{Parsed}
 use Rattle.sheet.specs.Sheets.{sheetFields}
 
@@ -61,18 +63,29 @@ fieldsOf reason.EmptyInput = bytes "empty-input" ∷ []
 abbrev pub reasonFields : State → Parsed → List (List ℕ)
 reasonFields s said = fieldsOf (reasonOf s said)
 
+-- Each after a tab, and then the line feed. They take at most so many bytes: a tab and the longest sheet.
+abbrev pub reasonEnd : Reason → List ℕ
+reasonEnd why = parted (fieldsOf why) ++ lineFeed ∷ []
+
+abbrev pub longestReason : ℕ
+longestReason = 172
+
 -- A line of the listing with reasons, without its line feed: line number, answer, value and level, and then the fields of the reason.
 unfoldable pub reasonedLine : ℕ → ℕ → ℕ → ℕ → Reason → List ℕ
 reasonedLine number answer value level reason =
     together (decimal number ∷ decimal answer ∷ decimal value ∷ decimal level ∷ fieldsOf reason)
 
+-- With its line feed. It has at most so many bytes: four numbers of 20 digits with the three tabs between them, and the longest reason.
+abbrev pub reasonedText : ℕ → ℕ → ℕ → ℕ → Reason → List ℕ
+reasonedText number answer value level reason = ended (reasonedLine number answer value level reason ∷ [])
+
+abbrev pub longestReasoned : ℕ
+longestReasoned = 255
+
+-- The line of an answer.
 abbrev pub lineWith : ℕ → Answered → Reason → List ℕ
 lineWith number a reason = reasonedLine number (numberOf (a .answer)) (valueOf (a .answer)) (a .level) reason
 
 -- The line of what a later line says.
 abbrev pub reasonedRecord : ℕ → State → Parsed → List ℕ
 reasonedRecord number s said = lineWith number (answered s said) (reasonOf s said)
-
--- With its line feed it has at most so many bytes: four numbers of 20 digits, each with a tab, and the longest sheet.
-abbrev pub longestReasoned : ℕ
-longestReasoned = 255
