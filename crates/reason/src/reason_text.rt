@@ -79,6 +79,7 @@ pub fn write_line(
     ensures wrote { λ r. ⌜ r ≡ length (reasonedText number (shown .answer) (shown .value) (shown .level .0) why) ⌝ }
     ensures out { λ _. ⌜ now (out .exit)
         ≡ sets (now (out .entry)) 0 (reasonedText number (shown .answer) (shown .value) (shown .level .0) why) ⌝ }
+    ensures within { λ r. ⌜ r ≤ length (now (out .exit)) ⌝ }
 {
     let buffer: &mut [u8] = out;
     let after_number = decimal::write(buffer, 0, number);

@@ -7,7 +7,7 @@ use native.Mathlib.Omega.{arith}
 use lib.ListN.{length, length-append}
 use Rattle.decimal.proofs.Digits.{text-length}
 use Rattle.decimal.specs.Write.{decimal}
-use Rattle.reason.proofs.PlainFields.{line-pieces}
+use Rattle.reason.proofs.PlainFields.{end-length, line-pieces}
 use Rattle.reason.specs.Reasons.{reasonEnd}
 use Rattle.script.proofs.Cells.{Written, written-length, written-next}
 use Rattle.script.specs.LineForms.{tab}
@@ -121,9 +121,11 @@ returns c =
     let f = w .before .before .before .before .before .before .before .before .before .before .before .before in
     let s = f .before .before .before in
     let a = s .args in
+    let all = (((one s ++ two s) ++ three s) ++ four s) ++ reasonEnd (a .why) in
+    let wrote = written-next (out s) 0 (((one s ++ two s) ++ three s) ++ four s) (reasonEnd (a .why)) (wrote-four w) (c .write-reason .ensures) in
+    let begun = written-begun (out s) all wrote in
     rw (line-pieces (a .number) (a .shown .answer) (a .shown .value) (a .shown .level .0) (a .why))
-    (written-begun (out s) ((((one s ++ two s) ++ three s) ++ four s) ++ reasonEnd (a .why))
-    (written-next (out s) 0 (((one s ++ two s) ++ three s) ++ four s) (reasonEnd (a .why)) (wrote-four w) (c .write-reason .ensures)))
+    (begun .0, (begun .1, omega (arith, begun .0, size f, written-length (out s) 0 all wrote, length-append (((one s ++ two s) ++ three s) ++ four s) (reasonEnd (a .why)), numbers s (size f), end-length (a .why))))
 
 pub write-line-spec : {M : Type 1} → statement M
 write-line-spec =
