@@ -28,6 +28,7 @@ pub const LONGEST_REASONED: usize = 255;
 
 // The numbers of the refusals of a denied access.
 const NO_RECEIVER: u64 = 10;
+
 const HOST_DENIES: u64 = 11;
 
 // Why the access that a line asks for is allowed or denied, if the line asks for one.

@@ -70,12 +70,7 @@ fn write_reason(out: &mut [u8], at: usize, why: Reason) -> usize
 }
 
 // Writes a line of the listing with reasons at the start of `out`, with its line feed, and returns how many bytes it has.
-pub fn write_line(
-    out: &mut [u8; LONGEST_REASONED],
-    number: u64,
-    shown: Shown,
-    why: Reason,
-) -> usize
+pub fn write_line(out: &mut [u8; LONGEST_REASONED], number: u64, shown: Shown, why: Reason) -> usize
     ensures wrote { λ r. ⌜ r ≡ length (reasonedText number (shown .answer) (shown .value) (shown .level .0) why) ⌝ }
     ensures out { λ _. ⌜ now (out .exit)
         ≡ sets (now (out .entry)) 0 (reasonedText number (shown .answer) (shown .value) (shown .level .0) why) ⌝ }
