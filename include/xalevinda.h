@@ -18,6 +18,8 @@
 #define XALEVINDA_LONGEST_RECORD 84
 /* Room for the records of any state: they have fewer bytes than this. */
 #define XALEVINDA_RECORDS_ROOM 65536
+/* No line of xalevinda_why is longer, its line feed included. */
+#define XALEVINDA_LONGEST_REASONED 255
 /* No sheet or verdict of xalevinda_explain is longer, its line feeds included. */
 #define XALEVINDA_LONGEST_EXPLANATION 261
 
@@ -71,6 +73,11 @@ size_t xalevinda_resume(const uint8_t *input, size_t input_length, uint8_t *out,
  * allowed or denied, or the verdict on the sheet that follows as the last line: all of it, or nothing where `out_length` is too short.
  * Returns how many bytes that has: at most XALEVINDA_LONGEST_EXPLANATION. */
 size_t xalevinda_explain(const uint8_t *input, size_t input_length, uint8_t *out, size_t out_length);
+
+/* Writes the listing of a script with the reason for every answer at the start of `out`: all of it, or nothing where `out_length` is too
+ * short. Behind the four fields of a line stands nothing at answer 0, else the name of the condition that gave the answer, or the fields of
+ * the sheet of a denied access. Returns how many bytes that has, or SIZE_MAX where it has more. The script is run twice. */
+size_t xalevinda_why(const uint8_t *script, size_t script_length, uint8_t *out, size_t out_length);
 
 /* The value of a field of a register's word, and the word with that field replaced by the low bits of `value`; its other bits stay. For
  * any other number of a register or a field the value is 0, and the word stays as it is. */
