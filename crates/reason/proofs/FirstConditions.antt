@@ -1,7 +1,7 @@
 -- The refusal of an event is that of the first condition of its rule that holds; and a line has no reason exactly where it is done.
 -- Assumes nothing.
-use mathlib.Core.Bool.{Bool, true, false, cond, not, _||_}
-use mathlib.Core.List.{List, [], _∷_, _++_}
+use mathlib.Core.Bool.{Bool, true, false, cond, not}
+use mathlib.Core.List.{List, [], _∷_}
 use mathlib.Core.Path.{_≡_, refl, sym, ap, _∙_}
 use mathlib.Core.Logic.{_↔_}
 use Prim.Native.Nat.{ℕ, _≤_}
@@ -13,7 +13,7 @@ use Rattle.listing.specs.Listing.{answered}
 use Rattle.model.specs.Answers.{firstOf, numberOf, refusalNumber}
 use Rattle.model.specs.Claims.{conditions}
 use Rattle.model.specs.State.{State}
-use Rattle.model.specs.Step.{answerBy, outcome, rule, ruled, step}
+use Rattle.model.specs.Step.{rule, ruled, step}
 use Rattle.model.specs.WellFormed.{wellFormed}
 use Rattle.model.specs.declared.answer.Answer.{Answer}
 use Rattle.model.specs.declared.answer.Answer.the-variants.{Done, Refused, Intercept}

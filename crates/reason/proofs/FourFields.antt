@@ -1,12 +1,12 @@
 -- The first four fields of the listing with reasons are the listing, byte for byte. Assumes nothing.
-use mathlib.Core.Bool.{Bool, true, false, cond, _&&_}
+use mathlib.Core.Bool.{true}
 use mathlib.Core.List.{List, [], _∷_, _++_, append-assoc, append-nil, map}
 use mathlib.Core.Option.{Option, none, some}
 use mathlib.Core.Path.{_≡_, refl, sym, ap, _∙_}
 use Prim.Native.Nat.{ℕ}
 use lib.ListN.{take}
 use Rattle.decimal.specs.Write.{decimal}
-use Rattle.listing.specs.Listing.{Answered, answered, firstDone, firstRefused, laterRecords, listing, listingFrom, listingOf, numberAfter, recordOf, stateBy}
+use Rattle.listing.specs.Listing.{answered, firstDone, laterRecords, listing, listingFrom, listingOf, numberAfter, recordOf, stateBy}
 use Rattle.model.specs.Answers.{numberOf, valueOf}
 use Rattle.model.specs.State.{State}
 use Rattle.reason.specs.ReasonClaims.{BareLine, ListingKept}
@@ -16,7 +16,6 @@ use Rattle.reason.specs.declared.Reason.the-variants as reason
 use Rattle.reason.proofs.PlainFields.{no-feeds-together, no-tabs, plain, plain-fields, plain-number}
 use Rattle.records.proofs.SameBytes.{NoFeeds, lines-ended, noFeed}
 use Rattle.records.specs.RecordTexts.{ended}
-use Rattle.script.proofs.Naming.{noTab}
 use Rattle.script.proofs.Parted.{fields-together, no-tab-number}
 use Rattle.script.proofs.Same.{every}
 use Rattle.script.specs.EventForms.{lineEvent}

@@ -12,7 +12,7 @@ use Rattle.decimal.proofs.Digits.{text-digits, text-length}
 use Rattle.decimal.specs.Write.{decimal}
 use Rattle.explanation.specs.declared.Receiver.the-variants as receiver
 use Rattle.reason.specs.ReasonClaims.{ShortReasoned}
-use Rattle.reason.specs.ReasonNames.{Refusal, reasonName, refusals}
+use Rattle.reason.specs.ReasonNames.{Refusal, reasonName}
 use Rattle.reason.specs.Reasons.{Reason, fieldsOf, reasonEnd, reasonedLine, reasonedText}
 use Rattle.reason.specs.declared.Reason.the-variants as reason
 use Rattle.reason.proofs.NameLaws.{each-name}

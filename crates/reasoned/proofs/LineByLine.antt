@@ -1,10 +1,10 @@
 -- For callers: a script that is fed line by line, each time what is left of it, until all is used. Assumes nothing.
-use mathlib.Core.List.{List, [], _++_}
+use mathlib.Core.List.{List, _++_}
 use mathlib.Core.Path.{_≡_, sym, ap, _∙_}
 use Prim.Native.Nat.{ℕ, _+_, _-_, _≤_, _<_}
 use borrow.Rule.Slice.PartMut.{midOf}
 use native.Mathlib.Omega.{arith}
-use lib.ListN.{drop, length, length-drop, take}
+use lib.ListN.{length, length-drop, take}
 use lib.Seq.{take-add}
 use Rattle.session.proofs.Callers.{part-whole}
 use Rattle.session.specs.Session.{Progress, consumed}

@@ -3,12 +3,12 @@ use mathlib.Core.Bool.{Bool, true, false, cond, false≢true}
 use mathlib.Core.List.{List, [], _∷_, _++_, append-nil}
 use mathlib.Core.Option.{Option, none, some}
 use mathlib.Core.Path.{_≡_, refl, sym, ap, _∙_}
-use Prim.Native.Nat.{ℕ, suc, min, _+_, _-_, _≤_, _<_}
+use Prim.Native.Nat.{ℕ, _+_, _-_, _≤_, _<_}
 use native.Mathlib.Nat.{sub-zero}
 use native.Mathlib.Omega.{arith}
 use lib.Dec.{eqb}
 use lib.ListN.{drop, length, take}
-use lib.Seq.{length-sets, length-take-le, sets, take-all, take-append-add}
+use lib.Seq.{length-take-le, take-all, take-append-add}
 use Rattle.chunk.proofs.ChunkLines.{end-within, joined, lines-from, lines-joined, lines-last, withLine}
 use Rattle.chunk.specs.Chunk.{lineEnd}
 use Rattle.listing.specs.Listing.{answered, numberAfter, stateBy}
@@ -22,7 +22,6 @@ use Rattle.model.specs.Answers.{refusalNumber}
 use Rattle.model.specs.State.{level}
 use Rattle.model.specs.declared.answer.Answer.the-variants.{Refused}
 use Rattle.model.specs.declared.answer.Refusal.{Refusal}
-use Rattle.model.specs.declared.quantity.Level.{Level}
 use Rattle.reason.specs.Reasons.{causeOf, reasonFor, reasonedRecord, reasonedText}
 use Rattle.reason.specs.declared.Reason.the-variants as reason
 use Rattle.reason.specs.declared.Reason.{Reason}
@@ -36,7 +35,7 @@ use Rattle.script.specs.declared.Parsed.{Parsed}
 use Rattle.script.specs.declared.Parsed.the-variants as parsed
 use Rattle.script.specs.declared.Start.{Start}
 use Rattle.script.specs.declared.Start.the-variants as start
-use Rattle.session.proofs.Ending.{ended-kept, said-kept}
+use Rattle.session.proofs.Ending.{said-kept}
 use Rattle.session.proofs.WholeListing.{Plain, kept-twice, line-ended, lines-plain}
 use Rattle.session.specs.Session.{Bounds, Progress, begun, consumed, consumedLines, ended, extended, first, isStopped, kept, lastEnded, later, progressIn, stopped}
 use Rattle.session.specs.declared.Phase.{Phase}

@@ -3,13 +3,11 @@ use mathlib.Core.List.{List, [], _∷_, _++_, append-assoc, append-nil}
 use mathlib.Core.Option.{Option, none, some}
 use mathlib.Core.Path.{_≡_, refl, sym, ap, _∙_}
 use Prim.Native.Nat.{ℕ}
-use lib.ListN.{take}
 use Rattle.chunk.proofs.ChunkLines.{joined as linesJoined, lines-joined}
 use Rattle.listing.specs.Listing.{answered, numberAfter, stateBy}
 use Rattle.model.specs.State.{State}
 use Rattle.reason.specs.ReasonedListing.{firstReason, laterReasoned, reasoned, reasonedDone, reasonedFrom, reasonedOf, reasonedRefused}
 use Rattle.reason.specs.Reasons.{reasonedRecord}
-use Rattle.reason.specs.declared.Reason.{Reason}
 use Rattle.records.specs.RecordTexts.{ended as withFeeds}
 use Rattle.script.specs.EventForms.{lineEvent}
 use Rattle.script.specs.First.{lineFirst}
@@ -17,7 +15,7 @@ use Rattle.script.specs.ListingLine.{lineFeed}
 use Rattle.script.specs.Records.{lastLine, lines, linesIn}
 use Rattle.session.proofs.WholeListing.{Plain, Plains, consumed-continued, continuedBy, ended-twice, extended-none, line-continued, line-ended, lines-plain}
 use Rattle.session.specs.Session.{Ended, Progress, after, begun, consumed, consumedLines, ended, extended, first, kept, later, stopped}
-use Rattle.reasoned.specs.ReasonedCuts.{CutInTwo, InTwo, ReasonedWhole, ToldWhole, joined, toldAll}
+use Rattle.reasoned.specs.ReasonedCuts.{CutInTwo, ReasonedWhole, ToldWhole, joined, toldAll}
 use Rattle.reasoned.specs.ReasonedSession.{firstText, lastTold, lineText, told, toldLines}
 use Rattle.reasoned.proofs.ReasonedLines.{text-kept, text-twice}
 

@@ -1,6 +1,5 @@
 // A line after the first, answered on the machine with the reason for its answer. Why an access is denied is asked of the state before the
 // step: at an intercept the step changes it.
-ghost use mathlib.Core.Path.{_≡_};
 ghost use Rattle.asked.specs.AskedAccess.{askedBy};
 ghost use Rattle.reason.specs.Reasons.{causeOf};
 ghost use Rattle.reasoned.specs.ReasonedParts.{ToldBy};

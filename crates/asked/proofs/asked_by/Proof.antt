@@ -1,5 +1,4 @@
 -- `asked::asked_by` meets its contract: by what the line says. Assumes nothing.
-use mathlib.Core.Path.{_≡_, refl}
 use borrow.Author.Needs.{needs}
 use Rattle.asked.proofs.asked_by.Statement.{statement}
 use Rattle.asked.proofs.asked_by.Tie as tie

@@ -1,14 +1,11 @@
 -- `turn` meets its contract. Every turn of the loop uses a line of what is left of the chunk, or all of it. Assumes nothing.
-use mathlib.Core.List.{List, []}
-use mathlib.Core.Path.{_≡_, sym, ap, _∙_}
-use Prim.Native.Nat.{ℕ, _+_, _-_, _<_, _≤_}
+use mathlib.Core.Path.{_≡_, sym}
+use Prim.Native.Nat.{_+_, _-_, _<_, _≤_}
 use borrow.Author.Needs.{needs}
-use borrow.Rule.Slice.PartMut.{midOf}
 use native.Mathlib.Omega.{arith}
 use lib.ListN.{length, take}
 use lib.Seq.{length-take-le}
 use Rattle.reasoned.proofs.LineByLine.{line-moves, line-progress}
-use Rattle.reasoned.specs.ReasonedSession.{told}
 use Rattle.session.proofs.Callers.{front, reached-session, reached-start}
 use Rattle.session.specs.Session.{consumed, progressOf}
 use Rattle.why.proofs.turn.Statement.{statement}

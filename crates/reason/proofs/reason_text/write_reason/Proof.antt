@@ -1,5 +1,4 @@
 -- `reason_text::write_reason` meets its contract: by the reason. Assumes nothing.
-use mathlib.Core.Path.{sym}
 use borrow.Author.Needs.{needs}
 use native.Mathlib.Omega.{arith}
 use Rattle.reason.proofs.PlainFields.{end-denied, end-named}

@@ -1,11 +1,10 @@
 -- `reason_text::write_sheet` meets its contract: the tab, and the sheet's text after it. Assumes nothing.
-use mathlib.Core.List.{List, [], _∷_}
+use mathlib.Core.List.{[], _∷_}
 use mathlib.Core.Path.{_≡_, refl, sym, ap, _∙_}
-use Prim.Native.Nat.{ℕ, _+_, _≤_}
+use Prim.Native.Nat.{_+_, _≤_}
 use borrow.Author.Needs.{needs}
 use native.Mathlib.Omega.{arith}
 use lib.ListN.{length, length-set, replicate, set, take}
-use lib.Seq.{length-take-le}
 use Rattle.script.proofs.Cells.{Written, written-length, written-next}
 use Rattle.script.specs.LineForms.{tab}
 use Rattle.sheet.proofs.SheetLengths.{short-sheet}

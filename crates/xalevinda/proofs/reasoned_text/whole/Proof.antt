@@ -1,5 +1,4 @@
 -- `xalevinda::reasoned_text::whole` meets its contract: the first run counts, and the second writes where the text has room. Assumes nothing.
-use mathlib.Core.Path.{refl}
 use Prim.Native.Nat.{_^_, _<_}
 use borrow.Author.Needs.{needs}
 use native.Mathlib.Omega.{arith}

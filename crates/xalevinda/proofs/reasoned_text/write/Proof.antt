@@ -1,6 +1,5 @@
 -- `xalevinda::reasoned_text::write` meets its contract. The loop's invariant is `Reasons`, and the measure is what is left of the script.
 -- Assumes nothing.
-use mathlib.Core.Path.{_≡_, sym, _∙_}
 use Prim.Native.Nat.{_+_, _-_, _^_, _<_, _≤_}
 use borrow.Author.Needs.{needs}
 use native.Mathlib.Omega.{arith}
