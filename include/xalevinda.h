@@ -20,6 +20,8 @@
 #define XALEVINDA_LONGEST_RECORD 84
 /* Room for the records of any state: they have fewer bytes than this. */
 #define XALEVINDA_RECORDS_ROOM 65536
+/* No line of xalevinda_why is longer, its line feed included. */
+#define XALEVINDA_LONGEST_REASONED 255
 /* No sheet or verdict of xalevinda_explain is longer, its line feeds included. */
 #define XALEVINDA_LONGEST_EXPLANATION 261
 /* How many words of 64 bits a machine takes, and how many xalevinda_step shows. */
@@ -136,6 +138,11 @@ size_t xalevinda_resume(const uint8_t *input, size_t input_length, uint8_t *out,
  * allowed or denied, or the verdict on the sheet that follows as the last line: all of it, or nothing where `out_length` is too short.
  * Returns how many bytes that has: at most XALEVINDA_LONGEST_EXPLANATION. */
 size_t xalevinda_explain(const uint8_t *input, size_t input_length, uint8_t *out, size_t out_length);
+
+/* Writes the listing of a script with the reason for every answer at the start of `out`: all of it, or nothing where `out_length` is too
+ * short. Behind the four fields of a line stands nothing at answer 0, else the name of the condition that gave the answer, or the fields of
+ * the sheet of a denied access. Returns how many bytes that has, or SIZE_MAX where it has more. The script is run twice. */
+size_t xalevinda_why(const uint8_t *script, size_t script_length, uint8_t *out, size_t out_length);
 
 /* Lockstep: a machine in words that the caller owns, so that a hypervisor's own tests can run beside the model event by event. The words
  * need no closing and may be copied. Which word is which is no part of this interface: only hand them back. A line has no line feed.

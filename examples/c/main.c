@@ -1,6 +1,6 @@
 /* A program over the library, in what C and C++ have in common. With one example it lists a script, passes the machine on in the middle
  * of it, asks why an access was denied, and reads and replaces a field of a word. Then it runs all that is stored for the programs
- * `bench`, `save`, `resume` and `explain`. What is written is held to what is stored; a difference ends the program with status 1. The
+ * `bench`, `save`, `resume`, `explain` and `why`. What is written is held to what is stored; a difference ends the program with status 1. The
  * argument is the repository. */
 #include "xalevinda.h"
 
@@ -25,6 +25,7 @@ static const Function LISTING = {"bench", xalevinda_listing};
 static const Function SAVE = {"save", xalevinda_save};
 static const Function RESUME = {"resume", xalevinda_resume};
 static const Function EXPLAIN = {"explain", xalevinda_explain};
+static const Function WHY = {"why", xalevinda_why};
 
 /* What a buffer is filled with before a function writes. */
 enum { FILL = 170 };
@@ -134,6 +135,9 @@ static size_t listing_room(Text input) {
 static size_t room_of(Function function, Text input) {
     if (function.into == xalevinda_save) {
         return XALEVINDA_RECORDS_ROOM;
+    }
+    if (function.into == xalevinda_why) {
+        return listing_room(input) / XALEVINDA_LONGEST_RECORD * XALEVINDA_LONGEST_REASONED;
     }
     return function.into == xalevinda_explain ? (size_t)XALEVINDA_LONGEST_EXPLANATION : listing_room(input);
 }
@@ -333,5 +337,6 @@ int main(int count, char **arguments) {
     check_cases(arguments[1], SAVE);
     check_cases(arguments[1], RESUME);
     check_cases(arguments[1], EXPLAIN);
+    check_cases(arguments[1], WHY);
     return 0;
 }

@@ -1,4 +1,4 @@
-//! Runs what is stored for the programs `bench`, `save`, `resume` and `explain` through the library and holds what it writes to what is stored, cuts
+//! Runs what is stored for the programs `bench`, `save`, `resume`, `explain` and `why` through the library and holds what it writes to what is stored, cuts
 //! scripts in two with the machine passed on between the parts, runs the stored scripts in lockstep, tries a few words of document 001, and times a
 //! long script: the file that the second argument names, or examples over and over. The first argument is the repository.
 
@@ -9,8 +9,8 @@ use std::path::Path;
 use std::time::Instant;
 use std::{env, fs, process};
 use xalevinda::{
-    explain, explain_into, field, listing, listing_into, resume, resume_into, save, save_into,
-    with_field, Register,
+    explain, explain_into, field, listing, listing_into, resume, resume_into, save, save_into, why,
+    why_into, with_field, Register,
 };
 
 type Checked = Result<(), String>;
@@ -46,6 +46,12 @@ const EXPLAIN: Function = Function {
     program: "explain",
     into: explain_into,
     whole: explain,
+};
+
+const WHY: Function = Function {
+    program: "why",
+    into: why_into,
+    whole: why,
 };
 
 /// What is written is the stored text, also in a buffer of just its size; a buffer one byte shorter stays as it was.
@@ -271,7 +277,7 @@ fn run() -> Checked {
             .get(1)
             .ok_or("usage: xalevinda REPOSITORY [SCRIPT]")?,
     );
-    for function in [LISTING, SAVE, RESUME, EXPLAIN] {
+    for function in [LISTING, SAVE, RESUME, EXPLAIN, WHY] {
         println!(
             "{} inputs of the program {} give what is stored, and leave a buffer that is too short untouched",
             check_cases(root, &function)?,

@@ -37,6 +37,12 @@ mod exported {
             out: *mut u8,
             out_length: usize,
         ) -> usize;
+        pub fn xalevinda_why(
+            script: *const u8,
+            script_length: usize,
+            out: *mut u8,
+            out_length: usize,
+        ) -> usize;
         pub fn xalevinda_open(
             line: *const u8,
             line_length: usize,
@@ -84,6 +90,12 @@ pub fn explain_into(input: &[u8], out: &mut [u8]) -> usize {
     unsafe { exported::xalevinda_explain(input.as_ptr(), input.len(), out.as_mut_ptr(), out.len()) }
 }
 
+/// Writes the listing of a script with the reason for every answer in the same way. The script is run twice, to count and to write.
+pub fn why_into(script: &[u8], out: &mut [u8]) -> usize {
+    // SAFETY: as in `listing_into`.
+    unsafe { exported::xalevinda_why(script.as_ptr(), script.len(), out.as_mut_ptr(), out.len()) }
+}
+
 /// What a function writes that needs no more room than this.
 fn written(into: fn(&[u8], &mut [u8]) -> usize, input: &[u8], room: usize) -> Vec<u8> {
     let mut out = vec![0; room];
@@ -115,6 +127,12 @@ pub fn resume(input: &[u8]) -> Vec<u8> {
 /// Why an access is allowed or denied: at most 261 bytes.
 pub fn explain(input: &[u8]) -> Vec<u8> {
     written(explain_into, input, 261)
+}
+
+/// The listing of a script with the reason for every answer. A line has at most 255 bytes.
+pub fn why(script: &[u8]) -> Vec<u8> {
+    let lines = script.iter().filter(|&&byte| byte == b'\n').count() + 1;
+    written(why_into, script, 255 * lines)
 }
 
 /// The value of a field, numbered from 0 in the order of 001 with reserved fields left out; 0 where the register has no such field.

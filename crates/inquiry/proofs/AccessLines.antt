@@ -33,8 +33,9 @@ use Rattle.script.specs.declared.Parsed.the-variants as parsed
 use Rattle.sheet.specs.Sheets.{Explanation, Allowed, Host, Levels}
 use Rattle.sheet.specs.Verdicts.{refusal}
 use Rattle.inquiry.specs.AskedLines.{rangedBy}
-use Rattle.inquiry.specs.Inquiry.{askedBy, askedOf, ofAsked, ofLine}
-use Rattle.inquiry.specs.declared.Asked.the-variants as asked
+use Rattle.asked.specs.AskedAccess.{askedBy, askedOf}
+use Rattle.inquiry.specs.Inquiry.{ofAsked, ofLine}
+use Rattle.asked.specs.declared.Asked.the-variants as asked
 
 -- An answer that has an explanation is not 1.
 not-one : (a : Answer) (e : Explanation) → Explains a e → eqb (numberOf a) 1 ≡ false

@@ -20,7 +20,8 @@ use Rattle.sheet.specs.Sheets.{Explanation, sheetText}
 use Rattle.sheet.specs.Verdicts.{refusal, verdict}
 use Rattle.state.specs.Lent.{machineOf}
 use Rattle.inquiry.specs.AskedLines.{rangedBy}
-use Rattle.inquiry.specs.Inquiry.{askedBy, explained, ofAsked, ofLines, ofPassed, sheetWith}
+use Rattle.asked.specs.AskedAccess.{askedBy}
+use Rattle.inquiry.specs.Inquiry.{explained, ofAsked, ofLines, ofPassed, sheetWith}
 use Rattle.inquiry.proofs.AccessLines.{ranged}
 
 no-lines : lines [] ≡ []

@@ -27,9 +27,10 @@ use Rattle.script.specs.declared.Parsed.the-variants as parsed
 use Rattle.sheet.specs.SheetForms.{goodForm}
 use Rattle.sheet.specs.Sheets.{Explanation}
 use Rattle.sheet.specs.Verdicts.{refusal, verdict, verdictLines}
-use Rattle.inquiry.specs.Inquiry.{LongRefused, askedBy, explained, ofAsked, ofLine, ofLines, ofPassed, sheetWith}
-use Rattle.inquiry.specs.declared.Asked.{Asked}
-use Rattle.inquiry.specs.declared.Asked.the-variants as asked
+use Rattle.asked.specs.AskedAccess.{askedBy}
+use Rattle.inquiry.specs.Inquiry.{LongRefused, explained, ofAsked, ofLine, ofLines, ofPassed, sheetWith}
+use Rattle.asked.specs.declared.Asked.{Asked}
+use Rattle.asked.specs.declared.Asked.the-variants as asked
 use Rattle.inquiry.proofs.AccessLines.{either-way}
 
 -- Bytes have no more than their lines, each with its line feed.

@@ -7,8 +7,8 @@ use lib.Dec.{leb, ltb}
 use lib.ListN.{length, take}
 use lib.Seq.{sets}
 use Rattle.model.specs.declared.machine.Setup.{Setup}
-use Rattle.inquiry.specs.declared.Asked.{Asked}
-use Rattle.inquiry.specs.declared.Asked.the-variants as asked
+use Rattle.asked.specs.declared.Asked.{Asked}
+use Rattle.asked.specs.declared.Asked.the-variants as asked
 
 -- An access that does not get answer 1: there are such a processor, such a mode and such a page.
 abbrev pub rangedBy : Setup → Asked → Asked

@@ -11,48 +11,17 @@ use Rattle.explanation.specs.Explained.{explanationOf}
 use Rattle.listing.specs.Listing.{answered}
 use Rattle.model.specs.Answers.{numberOf}
 use Rattle.model.specs.State.{State}
-use Rattle.model.specs.declared.quantity.Access.the-variants as Access
 use Rattle.model.specs.Step.{modeOf}
-use Rattle.model.specs.declared.event.Action.{Action}
-use Rattle.model.specs.declared.event.Action.the-variants.{Enpart, Envp, Call, Ret, Read, Write, Fetch, Protect, Config, Secure, Flush, Rreg, Wreg, Tpr, Ack, Pstat, Vstat, Caps}
-use Rattle.model.specs.declared.event.Event.the-variants.{Made, Int}
-use Rattle.model.specs.declared.quantity.Processor.{Processor}
 use Rattle.records.specs.Reading.{Passed, passedOn}
 use Rattle.records.specs.RecordTexts.{ended}
 use Rattle.script.specs.EventForms.{lineEvent}
 use Rattle.script.specs.Records.{lines}
 use Rattle.script.specs.declared.Parsed.{Parsed}
-use Rattle.script.specs.declared.Parsed.the-variants as parsed
 use Rattle.sheet.specs.Sheets.{Explanation, sheetText}
 use Rattle.sheet.specs.Verdicts.{refusal, verdict}
-use Rattle.inquiry.specs.declared.Asked.{Asked}
-use Rattle.inquiry.specs.declared.Asked.the-variants as asked
-
--- `read`, `write` and `fetch` are accesses; another line asks for none.
-abbrev pub askedOf : Processor → ℕ → Action → Asked
-askedOf v mode (Enpart t mbec) = asked.Nothing
-askedOf v mode (Envp w t ip sp cr) = asked.Nothing
-askedOf v mode (Call len) = asked.Nothing
-askedOf v mode (Ret len) = asked.Nothing
-askedOf v mode (Read p) = asked.Access v mode p Access.Read
-askedOf v mode (Write p x) = asked.Access v mode p Access.Write
-askedOf v mode (Fetch p) = asked.Access v mode p Access.Fetch
-askedOf v mode (Protect p k) = asked.Nothing
-askedOf v mode (Config g w) = asked.Nothing
-askedOf v mode (Secure l w) = asked.Nothing
-askedOf v mode Flush = asked.Nothing
-askedOf v mode (Rreg g r) = asked.Nothing
-askedOf v mode (Wreg g r x) = asked.Nothing
-askedOf v mode (Tpr class) = asked.Nothing
-askedOf v mode Ack = asked.Nothing
-askedOf v mode Pstat = asked.Nothing
-askedOf v mode Vstat = asked.Nothing
-askedOf v mode Caps = asked.Nothing
-
-abbrev pub askedBy : Parsed → Asked
-askedBy (parsed.Malformed r) = asked.Nothing
-askedBy (parsed.Event (Made v mode a)) = askedOf v mode a
-askedBy (parsed.Event (Int w g n)) = asked.Nothing
+use Rattle.asked.specs.AskedAccess.{askedBy}
+use Rattle.asked.specs.declared.Asked.{Asked}
+use Rattle.asked.specs.declared.Asked.the-variants as asked
 
 -- The sheet of an access; where a sheet follows as the last line, the verdict on it; a refusal where more lines follow.
 abbrev pub sheetWith : Explanation → List (List ℕ) → List ℕ

@@ -4,82 +4,29 @@ ghost use mathlib.Core.Path.{_≡_};
 ghost use Prim.Native.Nat.{_≤_};
 ghost use lib.ListN.{drop, length};
 ghost use lib.Seq.{sets};
+ghost use Rattle.asked.specs.AskedAccess.{askedBy};
 ghost use Rattle.explanation.specs.Explained.{explanationOf};
 ghost use Rattle.inquiry.specs.AskedLines.{Wrote, rangedBy};
-ghost use Rattle.inquiry.specs.Inquiry.{askedBy, askedOf, explained, sheetWith};
+ghost use Rattle.inquiry.specs.Inquiry.{explained, sheetWith};
 ghost use Rattle.reader.specs.Received.{stateIn};
 ghost use Rattle.records.specs.RecordTexts.{ended};
 ghost use Rattle.script.specs.EventForms.{lineEvent};
 ghost use Rattle.script.specs.Records.{lines};
 ghost use Rattle.sheet.specs.Verdicts.{refusal};
 use access_events::Request;
+use asked::Asked;
+use asked::asked_by;
 use chunk::at_most;
 use chunk::line_end;
 use explanation::Explanation;
-use model::event::Action;
-use model::event::Event;
 use model::machine::Setup;
-use model::quantity::Access;
-use model::quantity::Page;
 use model::quantity::Processor;
 use model::quantity::mode_of;
 use reader::Received;
-use script::Parsed;
 use sheet::LONGEST_VERDICT;
 
 // An input of more bytes is refused, whatever it says (`LongRefused`). So a program that reads one byte more has all that counts.
 pub const LONGEST_INQUIRY: usize = 66049;
-
-// The access that a line asks for, if it does.
-pub enum Asked {
-    Access {
-        vp: Processor,
-        mode: u64,
-        page: Page,
-        access: Access,
-    },
-    Nothing,
-}
-
-// The access that an action is. Any other action is none.
-fn asked_of(vp: Processor, mode: u64, action: Action) -> Asked
-    ensures { λ r. ⌜ r ≡ askedOf vp mode action ⌝ }
-{
-    match action {
-        Action::Read { page } => Asked::Access {
-            vp,
-            mode,
-            page,
-            access: Access::Read,
-        },
-        Action::Write { page, value } => Asked::Access {
-            vp,
-            mode,
-            page,
-            access: Access::Write,
-        },
-        Action::Fetch { page } => Asked::Access {
-            vp,
-            mode,
-            page,
-            access: Access::Fetch,
-        },
-        _ => Asked::Nothing,
-    }
-}
-
-// The access that a line asks for.
-fn asked_by(parsed: Parsed) -> Asked
-    ensures { λ r. ⌜ r ≡ askedBy parsed ⌝ }
-{
-    match parsed {
-        Parsed::Event(event) => match event {
-            Event::Made { vp, mode, action } => asked_of(vp, mode, action),
-            Event::Int { .. } => Asked::Nothing,
-        },
-        Parsed::Malformed(refusal) => Asked::Nothing,
-    }
-}
 
 // The access that a line asks for on a machine: there are such a processor, such a mode and such a page.
 fn access_line(setup: Setup, line: &[u8]) -> Asked

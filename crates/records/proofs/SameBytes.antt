@@ -22,15 +22,16 @@ use Rattle.records.specs.RecordTexts.{headOf, closed, front, recordLine,
 use Rattle.records.specs.Values.{setupAt, valueAt}
 use Rattle.records.proofs.ReadingBack.{passed-back, passed-only, same-lines, equal-lines}
 
-abbrev noFeed : List ℕ → Bool
+-- No byte is a line feed.
+abbrev pub noFeed : List ℕ → Bool
 noFeed [] = true
 noFeed (byte ∷ bytes) = not (eqb byte lineFeed) && noFeed bytes
 
-no-feed-append : (a b : List ℕ) → noFeed a ≡ true → noFeed b ≡ true → noFeed (a ++ b) ≡ true
+pub no-feed-append : (a b : List ℕ) → noFeed a ≡ true → noFeed b ≡ true → noFeed (a ++ b) ≡ true
 no-feed-append [] b h k = k
 no-feed-append (x ∷ a) b h k = rw (and-left (not (eqb x lineFeed)) (noFeed a) h) (no-feed-append a b (and-right (not (eqb x lineFeed)) (noFeed a) h) k)
 
-digits-no-feed : (field : List ℕ) → OnlyDigits field → noFeed field ≡ true
+pub digits-no-feed : (field : List ℕ) → OnlyDigits field → noFeed field ≡ true
 digits-no-feed [] h = refl
 digits-no-feed (byte ∷ field) (low, high, more) = rw (ne-eqb byte lineFeed (λ e. omega arith)) (digits-no-feed field more)
 
@@ -85,11 +86,12 @@ line-ended [] bytes h = refl
 line-ended (byte ∷ line) bytes h =
     rw (not-true (eqb byte lineFeed) (and-left (not (eqb byte lineFeed)) (noFeed line) h), line-ended line bytes (and-right (not (eqb byte lineFeed)) (noFeed line) h))
 
-abbrev NoFeeds : List (List ℕ) → Type 0
+abbrev pub NoFeeds : List (List ℕ) → Type 0
 NoFeeds [] = Unit {0}
 NoFeeds (line ∷ more) = (noFeed line ≡ true) × NoFeeds more
 
-lines-ended : (ls : List (List ℕ)) (bytes : List ℕ) → NoFeeds ls → lines (ended ls ++ bytes) ≡ ls ++ lines bytes
+-- The lines of lines with their line feeds, and of what follows them.
+pub lines-ended : (ls : List (List ℕ)) (bytes : List ℕ) → NoFeeds ls → lines (ended ls ++ bytes) ≡ ls ++ lines bytes
 unfolding ended
 lines-ended [] bytes h = refl
 lines-ended (line ∷ more) bytes h = ap lines (append-assoc line (lineFeed ∷ ended more) bytes) ∙ first ∙ ap (λ (l : List (List ℕ)). line ∷ l) (lines-ended more bytes (h .1))

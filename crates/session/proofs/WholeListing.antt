@@ -25,15 +25,15 @@ use Rattle.chunk.proofs.ChunkLines.{joined, lines-joined, withLine}
 use Rattle.session.proofs.Ending.{ended-kept}
 
 -- Bytes with no line feed among them, and lines of such bytes.
-abbrev Plain : List ℕ → Type 0
+abbrev pub Plain : List ℕ → Type 0
 Plain [] = Unit {0}
 Plain (byte ∷ bytes) = (eqb byte lineFeed ≡ false) × Plain bytes
 
-abbrev Plains : List (List ℕ) → Type 0
+abbrev pub Plains : List (List ℕ) → Type 0
 Plains [] = Unit {0}
 Plains (line ∷ more) = Plain line × Plains more
 
-lines-plain : (bytes : List ℕ) → Plains (linesIn bytes .complete) × Plain (linesIn bytes .rest)
+pub lines-plain : (bytes : List ℕ) → Plains (linesIn bytes .complete) × Plain (linesIn bytes .rest)
 unfolding linesIn
 lines-plain [] = (tt, tt)
 lines-plain (byte ∷ bytes) = go (eqb byte lineFeed) refl (linesIn bytes .complete) (linesIn bytes .rest) (lines-plain bytes)
@@ -45,16 +45,16 @@ lines-plain (byte ∷ bytes) = go (eqb byte lineFeed) refl (linesIn bytes .compl
     go false e (line ∷ more) rest h = (((e, h .0 .0), h .0 .1), h .1)
 
 -- Lines with such bytes before them: a line feed after the bytes ends a line, and else they belong to the first line.
-line-ended : (line bytes : List ℕ) → Plain line → linesIn (line ++ lineFeed ∷ bytes) ≡ withLine line (linesIn bytes)
+pub line-ended : (line bytes : List ℕ) → Plain line → linesIn (line ++ lineFeed ∷ bytes) ≡ withLine line (linesIn bytes)
 unfolding linesIn
 line-ended [] bytes h = refl
 line-ended (byte ∷ line) bytes h = rw (h .0, line-ended line bytes (h .1))
 
-abbrev continuedBy : List ℕ → List (List ℕ) → List ℕ → Lines
+abbrev pub continuedBy : List ℕ → List (List ℕ) → List ℕ → Lines
 continuedBy line [] rest = record { complete = []; rest = line ++ rest }
 continuedBy line (next ∷ more) rest = record { complete = (line ++ next) ∷ more; rest = rest }
 
-line-continued : (line bytes : List ℕ) → Plain line → linesIn (line ++ bytes) ≡ continuedBy line (linesIn bytes .complete) (linesIn bytes .rest)
+pub line-continued : (line bytes : List ℕ) → Plain line → linesIn (line ++ bytes) ≡ continuedBy line (linesIn bytes .complete) (linesIn bytes .rest)
 unfolding linesIn
 line-continued [] bytes h = go (linesIn bytes .complete) (linesIn bytes .rest)
   where
@@ -84,10 +84,10 @@ extended-twice (first bytes) line more = ap first (append-assoc bytes line more)
 extended-twice (later number s bytes) line more = ap (later number s) (append-assoc bytes line more)
 extended-twice stopped line more = refl
 
-kept-twice : (p : Progress) (line more : List ℕ) → kept (extended (kept (extended p line)) more) ≡ kept (extended p (line ++ more))
+pub kept-twice : (p : Progress) (line more : List ℕ) → kept (extended (kept (extended p line)) more) ≡ kept (extended p (line ++ more))
 kept-twice p line more = kept-extended (extended p line) more ∙ ap kept (extended-twice p line more)
 
-ended-twice : (p : Progress) (line more : List ℕ) → ended (extended (kept (extended p line)) more) ≡ ended (extended p (line ++ more))
+pub ended-twice : (p : Progress) (line more : List ℕ) → ended (extended (kept (extended p line)) more) ≡ ended (extended p (line ++ more))
 ended-twice p line more =
     sym (ended-kept (extended (kept (extended p line)) more)) ∙ ap ended (kept-twice p line more) ∙ ended-kept (extended p (line ++ more))
 
@@ -108,7 +108,7 @@ last-kept (later number s (byte ∷ line)) =
 last-kept stopped = refl
 
 -- Bytes of a line, and then more of it.
-consumed-continued : (p : Progress) (line : List ℕ) (complete : List (List ℕ)) (rest : List ℕ)
+pub consumed-continued : (p : Progress) (line : List ℕ) (complete : List (List ℕ)) (rest : List ℕ)
     → let l = continuedBy line complete rest in consumedLines p (l .complete) (l .rest) ≡ consumedLines (kept (extended p line)) complete rest
 unfolding consumedLines
 consumed-continued p line [] rest = ap (λ (q : Progress). record { progress = q; text = [] }) (sym (kept-twice p line rest))

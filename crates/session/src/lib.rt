@@ -17,6 +17,9 @@ mod line_answer; // what a line is answered
 mod lines; // lines that end
 mod listing_record; // the record of a line
 
+pub use lines::after_line;
+pub use lines::keep;
+
 // The longest record of the listing has so many bytes: four numbers of 20 digits, each with a byte that closes it.
 pub const LONGEST_RECORD: usize = 84;
 

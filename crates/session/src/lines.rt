@@ -93,7 +93,7 @@ pub(crate) fn blank(phase: Phase) -> Session
 }
 
 // The session before a later line, with the machine and the words that the line before it left.
-fn after_line(
+pub fn after_line(
     start: Session,
     number: u64,
     levels: Levels,
@@ -128,7 +128,7 @@ fn after_line(
 }
 
 // The session with more bytes of a line that has not ended.
-pub(crate) fn keep(start: Session, more: &[u8]) -> Session
+pub fn keep(start: Session, more: &[u8]) -> Session
     ensures { λ r. ⌜ progressOf r ≡ kept (extended (progressOf start) (now (more .entry))) ⌝ }
 {
     let mut session = start;

@@ -10,13 +10,14 @@ ghost use Rattle.records.specs.RecordTexts.{ended};
 ghost use Rattle.script.specs.LineForms.{fields};
 ghost use Rattle.sheet.specs.Sheets.{sheetFields, sheetText};
 ghost use Rattle.sheet.specs.Verdicts.{mark, refusal, sameFields, verdict};
-use crate::sheet_text::put;
 use crate::sheet_text::write_sheet;
 use explanation::Explanation;
 
 mod sheet_form; // the form of a sheet
 mod sheet_text; // the line of an explanation
 mod shown_fields; // the fields of a sheet, one a line
+
+pub use sheet_text::put;
 
 // A buffer of so many bytes has room for the line of every explanation, with its line feed.
 pub const LONGEST_SHEET: usize = 171;

@@ -14,7 +14,7 @@ use explanation::Receiver;
 use model::quantity::Level;
 
 // Copies a text into `out` from `at` on, and returns the place after it. Where it has no room, nothing is written and `at` is returned.
-pub(crate) fn put(out: &mut [u8], at: usize, text: &[u8]) -> usize
+pub fn put(out: &mut [u8], at: usize, text: &[u8]) -> usize
     ensures { λ r. ⌜ r ≡ afterText (now (out .entry)) at (now (text .entry)) ⌝ }
     ensures { λ _. ⌜ now (out .exit) ≡ withText (now (out .entry)) at (now (text .entry)) ⌝ }
 {

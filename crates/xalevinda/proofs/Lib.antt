@@ -2,3 +2,4 @@
 pub mod Storing  -- a text that is written piece by piece
 pub mod Listed  -- a script that is fed piece by piece
 pub mod ListingRoom  -- how much room a text takes at most
+pub mod ReasonsStored  -- a script that is fed line by line, with its reasons

@@ -7,10 +7,12 @@ ghost use Rattle.listing.specs.Listing.{listing};
 ghost use Rattle.lockstep.specs.Lockstep.{opened, shownAfter, stepped};
 ghost use Rattle.lockstep.specs.MachineWords.{stateIn};
 ghost use Rattle.passing.specs.Passing.{resumed, saved};
+ghost use Rattle.reason.specs.ReasonedListing.{reasoned};
 ghost use Rattle.word.specs.RegisterFields.{fieldOf, withField};
 ghost use Rattle.xalevinda.specs.Exports.{sizeOf};
 use written::Begins;
 
+mod reasoned_text; // the listing with reasons, written into a buffer
 mod written; // a text written into a buffer
 
 // The listing of a whole script (01, "Script and listing"), written at the start of `out`: all of it, or nothing where it has no room.
@@ -60,6 +62,16 @@ pub extern "C" fn xalevinda_explain(input: &[u8], out: &mut [u8]) -> usize
     let size = inquiry::explain(input, &mut said);
     written::put(out, 0, &said[..size]);
     size
+}
+
+// The listing of a whole script with the reason for every answer, written at the start of `out`: all of it, or nothing where it has no room.
+// Returns how many bytes it has, or the largest number where it has more. The script is run once to count them, and once more to write them.
+#[no_mangle]
+pub extern "C" fn xalevinda_why(script: &[u8], out: &mut [u8]) -> usize
+    ensures size { λ r. ⌜ r ≡ sizeOf (reasoned (now (script .entry))) ⌝ }
+    ensures out { λ _. ⌜ now (out .exit) ≡ withText (now (out .entry)) 0 (reasoned (now (script .entry))) ⌝ }
+{
+    reasoned_text::whole(script, out)
 }
 
 // Lockstep: makes the fresh machine of a first line (01, "Script and listing") in the words of `machine`. Returns 0, or the number of the reason

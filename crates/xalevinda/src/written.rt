@@ -42,7 +42,7 @@ fn line_feeds(input: &[u8]) -> usize
 }
 
 // The sum, or the largest number where it does not fit.
-fn added(size: usize, more: usize) -> usize
+pub(crate) fn added(size: usize, more: usize) -> usize
     ensures { λ r. ⌜ r ≡ atMostWord (size + more) ⌝ }
 {
     if usize::MAX - size < more {

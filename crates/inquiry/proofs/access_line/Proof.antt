@@ -2,8 +2,8 @@
 use mathlib.Core.Path.{_≡_, refl, sym, ap, _∙_}
 use borrow.Author.Needs.{needs}
 use Rattle.inquiry.specs.AskedLines.{rangedBy}
-use Rattle.inquiry.specs.Inquiry.{askedBy}
-use Rattle.inquiry.specs.declared.Asked.{Asked}
+use Rattle.asked.specs.AskedAccess.{askedBy}
+use Rattle.asked.specs.declared.Asked.{Asked}
 use Rattle.inquiry.proofs.access_line.Statement.{statement}
 use Rattle.inquiry.proofs.access_line.Tie as tie
 

@@ -1,4 +1,4 @@
--- `inquiry::asked_of` meets its contract: by the action. Assumes nothing.
+-- `asked::asked_of` meets its contract: by the action. Assumes nothing.
 use mathlib.Core.List.{List, [], _∷_}
 use mathlib.Core.Path.{_≡_, refl}
 use Prim.Native.Nat.{ℕ}
@@ -9,10 +9,10 @@ use Rattle.model.proofs.event.Action.{the-type}
 use Rattle.model.specs.declared.event.Action.{Action}
 use Rattle.model.specs.declared.event.Action.the-variants.{Enpart, Envp, Call, Ret, Read, Write, Fetch, Protect, Config, Secure, Flush, Rreg, Wreg, Tpr, Ack, Pstat, Vstat, Caps}
 use Rattle.model.specs.declared.quantity.Processor.{Processor}
-use Rattle.inquiry.specs.Inquiry.{askedOf}
-use Rattle.inquiry.specs.declared.Asked.the-variants.{Nothing}
-use Rattle.inquiry.proofs.asked_of.Statement.{statement}
-use Rattle.inquiry.proofs.asked_of.Tie as tie
+use Rattle.asked.specs.AskedAccess.{askedOf}
+use Rattle.asked.specs.declared.Asked.the-variants.{Nothing}
+use Rattle.asked.proofs.asked_of.Statement.{statement}
+use Rattle.asked.proofs.asked_of.Tie as tie
 
 -- The other actions, by their places among all.
 abbrev others : List ℕ

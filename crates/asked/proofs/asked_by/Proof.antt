@@ -1,8 +1,7 @@
--- `inquiry::asked_by` meets its contract: by what the line says. Assumes nothing.
-use mathlib.Core.Path.{_≡_, refl}
+-- `asked::asked_by` meets its contract: by what the line says. Assumes nothing.
 use borrow.Author.Needs.{needs}
-use Rattle.inquiry.proofs.asked_by.Statement.{statement}
-use Rattle.inquiry.proofs.asked_by.Tie as tie
+use Rattle.asked.proofs.asked_by.Statement.{statement}
+use Rattle.asked.proofs.asked_by.Tie as tie
 
 returns : tie.Need-returns
 returns c =
