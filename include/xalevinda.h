@@ -100,7 +100,8 @@ enum xalevinda_reason {
     XALEVINDA_REASON_HOST_DENIES = 56,                /* no level denies, the host mask does */
     XALEVINDA_REASON_TLB_LOCKED = 57,                 /* flush: a level above the actor holds a TLB lock on it */
     XALEVINDA_REASON_NO_READY_VECTOR = 58,            /* ack: no vector is ready */
-    XALEVINDA_REASON_INTERRUPT_FLAG_CLEAR = 59        /* ack: RFLAGS bit 9 is clear */
+    XALEVINDA_REASON_INTERRUPT_FLAG_CLEAR = 59,       /* ack: RFLAGS bit 9 is clear */
+    XALEVINDA_REASON_TARGET_GUARDED = 60              /* envp: the target is enabled on a processor, and the actor is below it */
 };
 
 /* The words that xalevinda_step shows. */

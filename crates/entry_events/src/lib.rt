@@ -12,7 +12,7 @@ ghost use Rattle.model.specs.Step.{ruled, acted};
 ghost use Rattle.model.specs.Updates.{putVp};
 ghost use Rattle.partition.specs.PartitionView.{partitionOf};
 ghost use Rattle.processor.specs.Record.{vpOf};
-ghost use Rattle.promise.specs.Promise.{result, Runs, Acts};
+ghost use Rattle.promise.specs.Promise.{result, Runs, Acts, Elsewhere};
 use model::answer::Answer;
 use model::answer::Refusal;
 use model::machine::Shape;
@@ -24,6 +24,7 @@ use model::register::INTERRUPT_BIT;
 use model::register::PROTECTED_BIT;
 use model::register::RCX;
 use model::register::RFLAGS;
+use model::set::is_level;
 use partition::level::Levels;
 use partition::level::enabled_for;
 use processor::control::InitialContext;
@@ -86,23 +87,32 @@ pub fn ret(shape: Shape, vp: &mut Record, mode: Mode, length: u64) -> Answer
     Answer::Done(active.0)
 }
 
-// envp, given the record of processor w: the target starts on w with RIP, RSP and CR0 as given.
+// The level that envp starts, and whether it is enabled on another processor than the one whose record is lent. (That one may count too.)
+pub struct Target {
+    pub level: Level,
+    pub elsewhere: bool,
+}
+
+// envp, given the record of processor w: the target starts on w with RIP, RSP and CR0 as given. Once it is enabled on any processor, only a level at
+// it or above may start it; before that, only a lower one (02, request 5).
 pub fn envp(
     shape: Shape,
     levels: &Levels,
     vp: &mut Record,
     actor: Level,
     mode: Mode,
-    target: Level,
+    target: Target,
     initial: InitialContext,
 ) -> Answer
     ensures { λ r. ⌜ ((s : State) (v pages : ℕ) (w : Processor) (masks : List ℕ)
         → Acts shape pages (partitionOf (now (levels .entry)) masks) (actor .0) s v
         → Runs shape (vpOf (now (vp .entry))) s (w .0)
-        → acted s v mode (Envp w target (initial .rip) (initial .rsp) (initial .cr0))
+        → Elsewhere shape (vpOf (now (vp .entry))) (target .level .0) (target .elsewhere) s
+        → acted s v mode (Envp w (target .level) (initial .rip) (initial .rsp) (initial .cr0))
         ≡ result r (putVp s (w .0) (vpOf (now (vp .exit))))) ⌝ }
 {
-    if quantity::HIGHEST_LEVEL < target.0 {
+    let level = target.level;
+    if quantity::HIGHEST_LEVEL < level.0 {
         return Answer::Refused(Refusal::LevelOutOfRange);
     }
     if !has_bit(initial.cr0, PROTECTED_BIT) {
@@ -111,22 +121,27 @@ pub fn envp(
     if quantity::is_user(mode) {
         return Answer::Refused(Refusal::UserMode);
     }
-    if target.0 == 0 {
+    if level.0 == 0 {
         return Answer::Refused(Refusal::LevelZero);
     }
-    if shape.max_level.0 < target.0 {
+    if shape.max_level.0 < level.0 {
         return Answer::Refused(Refusal::AboveMaximum);
     }
-    if target.0 <= actor.0 {
+    let here = enabled_at(shape, vp, level);
+    let anywhere = here | (is_level(shape, level) & target.elsewhere);
+    if !anywhere & (level.0 <= actor.0) {
         return Answer::Refused(Refusal::TargetNotAbove);
     }
-    if enabled_at(shape, vp, target) {
+    if anywhere & (actor.0 < level.0) {
+        return Answer::Refused(Refusal::TargetGuarded);
+    }
+    if here {
         return Answer::Refused(Refusal::EnabledOnProcessor);
     }
-    if !enabled_for(shape, levels, target) {
+    if !enabled_for(shape, levels, level) {
         return Answer::Refused(Refusal::NotEnabledForPartition);
     }
-    start(shape, vp, target, initial);
+    start(shape, vp, level, initial);
     Answer::Done(0)
 }
 

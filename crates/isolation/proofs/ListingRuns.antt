@@ -19,7 +19,7 @@ use Rattle.listing.specs.Listing.{answered, laterRecords, numberAfter, recordOf
 use Rattle.script.specs.EventForms.{lineEvent}
 use Rattle.script.specs.declared.Parsed.{Parsed}
 use Rattle.script.specs.declared.Parsed.the-variants as parsed
-use Rattle.isolation.specs.Isolation.{Alike, Isolated, everywhere, quiet}
+use Rattle.isolation.specs.Isolation.{Alike, Isolated, everyLevel, quiet}
 use Rattle.isolation.specs.Listings.{ListingIsolated, andEvent, eventsOf}
 use Rattle.isolation.proofs.Runs.{isolation}
 
@@ -45,7 +45,7 @@ stepped K s t e k ws wt plain q =
 
 -- What the level column shows is not hidden.
 active-same : (K : ℕ) (s t : State) (v : ℕ) → Alike K s s t → active s v ≡ active t v
-active-same K s t v plain = sym (active-hide K everywhere (closed K s) s v) ∙ ap (λ q. active q v) plain ∙ active-hide K everywhere (closed K s) t v
+active-same K s t v plain = sym (active-hide K everyLevel (closed K s) s v) ∙ ap (λ q. active q v) plain ∙ active-hide K everyLevel (closed K s) t v
 
 -- What is left to list from two states as in demand 3.
 abbrev Rest : ℕ → ℕ → List (List ℕ) → Type 0

@@ -1,7 +1,7 @@
 -- Demand 3: two runs that differ only in what is hidden. Each is followed beside the run of its hidden state, and the two hidden
 -- states are the same. Assumes nothing.
 use mathlib.Core.Path.{_≡_, refl, sym, ap, _∙_}
-use mathlib.Core.Bool.{Bool, true, false, not, cond, _&&_, _||_, and-false}
+use mathlib.Core.Bool.{Bool, true, false, not, cond, _&&_, _||_, false≢true, and-false}
 use mathlib.Core.List.{List, [], _∷_}
 use mathlib.Core.Option.{Option, none, some}
 use Prim.Native.Nat.{ℕ, _≤_}
@@ -14,27 +14,29 @@ use Rattle.model.specs.declared.machine.VirtualProcessor.{VirtualProcessor}
 use Rattle.model.specs.declared.set.LevelSet.{LevelSet}
 use Rattle.model.specs.Arrays.{numberAt}
 use Rattle.model.specs.Registers.{cr0, isPrivate, privateOf}
-use Rattle.model.specs.State.{State, noControl, noContext, noVp, pastVp, processors, pages, shape, inSet, isLevel, isProcessor, isPage, vp, enabledAt, enabledOn}
+use Rattle.model.specs.State.{State, noControl, noContext, noVp, pastVp, processors, pages, shape, inSet, isLevel, isProcessor, isPage, vp, enabledAt, enabledOn, enabledAnywhere}
 use Rattle.model.specs.Step.{maker, step, answers, final}
 use Rattle.model.specs.WellFormed.{wellModed}
+use borrow.Author.Tests.{ltb-true}
 use Rattle.model.proofs.Bools.{and-left, and-right, cond-then, cond-else}
+use Rattle.model.proofs.BoundedLaws.{any-has}
 use Rattle.model.specs.Hide.{closed, hides, hideSet, hideContext, hideLevel, hideVp, hidePartition, isMask, hideMachine, hide, quietMaker}
-use Rattle.isolation.specs.Isolation.{quiet, everywhere, Kept, Isolation, RunKeeps}
+use Rattle.isolation.specs.Isolation.{quiet, everyLevel, Kept, Guarded, Isolation, RunKeeps}
 use Rattle.model.proofs.Formed.{well-moded}
 use Rattle.model.proofs.Keeps.{step-keeps}
 use Rattle.model.proofs.LevelSets.{in-hidden, hidden-twice}
 use Rattle.model.proofs.Maps.{mapAt-ext, mapAt-same, mapAt-absorb, mapAt-again}
-use Rattle.model.proofs.Moves.{Moved, same-moved, then-moved, closed-kept, step-moved, modes-kept}
+use Rattle.model.proofs.Moves.{Moved, same-moved, then-moved, closed-kept, anywhere-kept, step-moved, modes-kept}
 use Rattle.model.proofs.Steps.{Reached, step-hide}
 use Rattle.model.proofs.Visible.{private-seen}
-use Rattle.model.proofs.Whole.{processors-same, shape-same, vp-hide, active-hide, enabledOn-hide, closed-same}
+use Rattle.model.proofs.Whole.{processors-same, shape-same, vp-hide, active-hide, enabledOn-hide, anywhere-hide, closed-same}
 
 -- One run beside the run of its hidden state. It starts at o, where E and H are taken.
-module _ (K : ℕ) (k : 1 ≤ K) (E : ℕ → ℕ → Bool) (H : ℕ → Bool) (o : State) (E-is : (v l : ℕ) → E v l ≡ enabledOn o v l) (H-is : (p : ℕ) → H p ≡ closed K o p) where
+module _ (K : ℕ) (k : 1 ≤ K) (E : ℕ → Bool) (H : ℕ → Bool) (o : State) (E-is : (l : ℕ) → E l ≡ enabledAnywhere o l) (H-is : (p : ℕ) → H p ≡ closed K o p) where
   reached : (s : State) → Moved K o s → wellModed s ≡ true → Reached K E H s
   reached s m w = record {
     modes = w;
-    grown = λ v l h. m .contexts v l .grows (sym (E-is v l) ∙ h);
+    grown = λ l h. anywhere-kept K o s m l (sym (E-is l) ∙ h);
     pages = λ p h. H-is p ∙ sym (closed-kept K o s m p) ∙ h;
   }
 
@@ -75,6 +77,11 @@ on-at : (s : State) (v l : ℕ) → isProcessor s v ≡ true → enabledOn s v l
 unfolding enabledOn enabledAt vp
 on-at s v l b = rw b
 
+-- What is enabled on a processor is enabled on some.
+somewhere : (s : State) (v l : ℕ) → isProcessor s v ≡ true → enabledOn s v l ≡ true → enabledAnywhere s l ≡ true
+unfolding enabledAnywhere isProcessor
+somewhere s v l i h = any-has 4 (λ w. enabledOn s w l) v (ltb-true v 4 (and-right (ltb v (processors s)) (ltb v 4) i)) h
+
 -- Either branch absorbs.
 branch : {A : Type 0} (b : Bool) (f g : A → A) (x d : A) → f (g x) ≡ f x → cond b (f (cond b (g x) d)) d ≡ cond b (f x) d
 branch true f g x d h = h
@@ -82,25 +89,26 @@ branch false f g x d h = refl
 
 -- Hiding every level from K up, and hiding all but those first enabled.
 module _ (K : ℕ) where
-  -- At the start no level is first enabled.
-  hides-start : (l : ℕ) (e : Bool) → hides K e l e ≡ hides K true l e
+  -- At the start no level is first enabled: one that is enabled on a processor is enabled on some.
+  hides-start : (l : ℕ) (was is : Bool) → (is ≡ true → was ≡ true) → hides K was l is ≡ hides K true l is
   unfolding hides
-  hides-start l true = refl
-  hides-start l false = refl
+  hides-start l true is h = refl
+  hides-start l false true h = absurd (false≢true (h refl))
+  hides-start l false false h = refl
 
-  hide-start : (E : ℕ → ℕ → Bool) (H : ℕ → Bool) (s : State) → ((v l : ℕ) → E v l ≡ enabledOn s v l) → hide K E H s ≡ hide K everywhere H s
+  hide-start : (E : ℕ → Bool) (H : ℕ → Bool) (s : State) → ((l : ℕ) → E l ≡ enabledAnywhere s l) → hide K E H s ≡ hide K everyLevel H s
   unfolding hide hideMachine hideVp hideLevel
   hide-start E H s e =
-      rw (mapAt-ext (λ v p. cond (isProcessor s v) (hideVp K (E v) (shape s) p) noVp) (λ v p. cond (isProcessor s v) (hideVp K (everywhere v) (shape s) p) noVp) (s .machine .vps) pastVp (λ v i. processor v (isProcessor s v) refl))
+      rw (mapAt-ext (λ v p. cond (isProcessor s v) (hideVp K E (shape s) p) noVp) (λ v p. cond (isProcessor s v) (hideVp K everyLevel (shape s) p) noVp) (s .machine .vps) pastVp (λ v i. processor v (isProcessor s v) refl))
     where
       at : ℕ → VirtualProcessor
       at v = getD (s .machine .vps) v pastVp
 
-      level : (v l : ℕ) (c : Context) → isProcessor s v ≡ true → hideLevel K (E v) (shape s) (at v .enabled) l c ≡ hideLevel K (everywhere v) (shape s) (at v .enabled) l c
-      level v l c i = rw (e v l ∙ on-at s v l i, hides-start l)
+      level : (v l : ℕ) (c : Context) → isProcessor s v ≡ true → hideLevel K E (shape s) (at v .enabled) l c ≡ hideLevel K everyLevel (shape s) (at v .enabled) l c
+      level v l c i = rw (hides-start l (E l) (inSet (shape s) (at v .enabled) l) (λ h. e l ∙ somewhere s v l i (on-at s v l i ∙ h)))
 
-      processor : (v : ℕ) (b : Bool) → isProcessor s v ≡ b → cond b (hideVp K (E v) (shape s) (at v)) noVp ≡ cond b (hideVp K (everywhere v) (shape s) (at v)) noVp
-      processor v true b = rw (mapAt-same (hideLevel K (E v) (shape s) (at v .enabled)) (hideLevel K (everywhere v) (shape s) (at v .enabled)) (at v .contexts) (λ l c. level v l c b))
+      processor : (v : ℕ) (b : Bool) → isProcessor s v ≡ b → cond b (hideVp K E (shape s) (at v)) noVp ≡ cond b (hideVp K everyLevel (shape s) (at v)) noVp
+      processor v true b = rw (mapAt-same (hideLevel K E (shape s) (at v .enabled)) (hideLevel K everyLevel (shape s) (at v .enabled)) (at v .contexts) (λ l c. level v l c b))
       processor v false b = refl
 
   -- Hiding more after hiding less.
@@ -136,7 +144,7 @@ module _ (K : ℕ) where
     contexts = mapAt-again (hideLevel K (λ l. true) z (hideSet z (p .enabled))) (hideLevel K E z (p .enabled)) (hideLevel K (λ l. true) z (p .enabled)) (p .contexts) (level-again E z (p .enabled)) i;
   }
 
-  hide-again : (E : ℕ → ℕ → Bool) (H : ℕ → Bool) (s : State) → hide K everywhere H (hide K E H s) ≡ hide K everywhere H s
+  hide-again : (E : ℕ → Bool) (H : ℕ → Bool) (s : State) → hide K everyLevel H (hide K E H s) ≡ hide K everyLevel H s
   unfolding hide hideMachine isProcessor processors isMask isPage pages shape hidePartition
   hide-again E H s = λ i. record {
     machine = record {
@@ -150,17 +158,17 @@ module _ (K : ℕ) where
         configs = mapAt-absorb (λ l w. cond (ltb 0 l && isLevel (shape s) l) w 0) (λ l w. cond (ltb 0 l && isLevel (shape s) l) w 0) (s .machine .partition .configs) (λ l w. cond-then (ltb 0 l && isLevel (shape s) l) w 0) i;
         masks = mapAt-absorb (λ j k. cond (isMask s j) k 0) (λ j k. cond (isMask s j) k 0) (s .machine .partition .masks) (λ j k. cond-then (isMask s j) k 0) i;
       };
-      vps = mapAt-absorb (λ v p. cond (isProcessor s v) (hideVp K (λ l. true) (shape s) p) noVp) (λ v p. cond (isProcessor s v) (hideVp K (E v) (shape s) p) noVp) (s .machine .vps)
-          (λ v p. branch (isProcessor s v) (hideVp K (λ l. true) (shape s)) (hideVp K (E v) (shape s)) p noVp (vp-again (E v) (shape s) p)) i;
+      vps = mapAt-absorb (λ v p. cond (isProcessor s v) (hideVp K (λ l. true) (shape s) p) noVp) (λ v p. cond (isProcessor s v) (hideVp K E (shape s) p) noVp) (s .machine .vps)
+          (λ v p. branch (isProcessor s v) (hideVp K (λ l. true) (shape s)) (hideVp K E (shape s)) p noVp (vp-again E (shape s) p)) i;
     };
     words = mapAt-absorb (λ p x. cond (H p) 0 x) (λ p x. cond (H p) 0 x) (s .words) (λ p x. cond-else (H p) 0 x) i;
   }
 
--- A register of a level that was not enabled and is: it is not hidden.
-seen : (K : ℕ) (E : ℕ → ℕ → Bool) (H : ℕ → Bool) (s : State) (v l r : ℕ) → isPrivate (shape s) r ≡ true → E v l ≡ false → enabledOn s v l ≡ true →
+-- A register of a level that was enabled on no processor and is enabled on this one: it is not hidden.
+seen : (K : ℕ) (E : ℕ → Bool) (H : ℕ → Bool) (s : State) (v l r : ℕ) → isPrivate (shape s) r ≡ true → E l ≡ false → enabledOn s v l ≡ true →
     privateOf (shape (hide K E H s)) (vp (hide K E H s) v) l r ≡ privateOf (shape s) (vp s v) l r
 unfolding enabledOn hides
-seen K E H s v l r q n o = rw (shape-same, vp-hide) (private-seen K (E v) (shape s) (vp s v) l r (simp (n, o, and-false)) q)
+seen K E H s v l r q n o = rw (shape-same, vp-hide) (private-seen K E (shape s) (vp s v) l r (simp (n, o, and-false)) q)
 
 kept : (K : ℕ) (s a : State) → Moved K s a → Kept K s a
 unfolding privateOf
@@ -172,20 +180,27 @@ unfolding final
 run-keeps s [] w = w
 run-keeps s (e ∷ es) w = run-keeps (step s e .next) es (step-keeps s e w)
 
+pub guards : Guarded
+unfolding final quiet
+guards K s [] k q v l up on = refl
+guards K s (e ∷ es) k q v l up on =
+    let m = step-moved K k s e (and-left (quietMaker K s (maker e)) (quiet K (step s e .next) es) q) in
+    guards K (step s e .next) es k (and-right (quietMaker K s (maker e)) (quiet K (step s e .next) es) q) v l up (anywhere-kept K s (step s e .next) m l on) ∙ m .contexts v l .still up on
+
 pub isolation : Isolation
 isolation K s t es k ws wt plain c =
-    let E = enabledOn s in
+    let E = enabledAnywhere s in
     let H = closed K s in
-    let on-is : (v l : ℕ) → enabledOn s v l ≡ enabledOn t v l = λ v l. sym (enabledOn-hide K everywhere H s v l) ∙ ap (λ q. enabledOn q v l) plain ∙ enabledOn-hide K everywhere H t v l in
-    let e : hide K E H s ≡ hide K E H t = hide-start K E H s (λ v l. refl) ∙ plain ∙ sym (hide-start K E H t on-is) in
-    let cs = quiet-hide K k E H s (λ v l. refl) (λ p. refl) es s (same-moved K s) (well-moded s ws) c in
-    let a = follows K k E H s (λ v l. refl) (λ p. refl) es s (same-moved K s) (well-moded s ws) cs in
+    let on-is : (l : ℕ) → enabledAnywhere s l ≡ enabledAnywhere t l = λ l. sym (anywhere-hide K everyLevel H s l) ∙ ap (λ q. enabledAnywhere q l) plain ∙ anywhere-hide K everyLevel H t l in
+    let e : hide K E H s ≡ hide K E H t = hide-start K E H s (λ l. refl) ∙ plain ∙ sym (hide-start K E H t on-is) in
+    let cs = quiet-hide K k E H s (λ l. refl) (λ p. refl) es s (same-moved K s) (well-moded s ws) c in
+    let a = follows K k E H s (λ l. refl) (λ p. refl) es s (same-moved K s) (well-moded s ws) cs in
     let H-is : (p : ℕ) → closed K s p ≡ closed K t p = λ p. sym (closed-same K E H s p) ∙ ap (λ q. closed K q p) e ∙ closed-same K E H t p in
     let b = follows K k E H t on-is H-is es t (same-moved K t) (well-moded t wt) (rw e at cs) in
     let al : hide K E H (final s es) ≡ hide K E H (final t es) = sym (a .end) ∙ ap (λ q. final q es) e ∙ b .end in
     record {
       same = sym (a .same) ∙ ap (λ q. answers q es) e ∙ b .same;
-      alike = sym (hide-again K E H (final s es)) ∙ ap (hide K everywhere H) al ∙ hide-again K E H (final t es);
+      alike = sym (hide-again K E H (final s es)) ∙ ap (hide K everyLevel H) al ∙ hide-again K E H (final t es);
       first = λ v l r q n o.
           let ot : enabledOn (final t es) v l ≡ true = sym (enabledOn-hide K E H (final t es) v l) ∙ sym (ap (λ q. enabledOn q v l) al) ∙ enabledOn-hide K E H (final s es) v l ∙ o in
           sym (seen K E H (final s es) v l r (rw (ap (λ f. f .1) (a .moved .frame-kept)) q) n o) ∙ ap (λ q. privateOf (shape q) (vp q v) l r) al ∙ seen K E H (final t es) v l r

@@ -1,7 +1,8 @@
 -- An instance of demand 3, with K = 1: two states that differ in RIP of level 1, which is enabled, in RSP of level 2, which is
--- not, and in the word of page 1, which level 1 has closed; and a list of events. Assumes nothing.
+-- not, and in the word of page 1, which level 1 has closed; and a list of events. And a state in which level 1 is enabled on one of two
+-- processors, with any list of events. Assumes nothing.
 use mathlib.Core.Path.{_≡_}
-use mathlib.Core.Bool.{false}
+use mathlib.Core.Bool.{true, false}
 use mathlib.Core.List.{List, [], _∷_}
 use Prim.Native.Nat.{ℕ}
 use lib.ListN.{replicate}
@@ -11,34 +12,47 @@ use Rattle.model.specs.declared.event.Event.{Event}
 use Rattle.model.specs.declared.event.Action.the-variants.{Envp, Call, Read, Flush, Rreg, Wreg}
 use Rattle.model.specs.declared.event.Event.the-variants.{Made, Int}
 use Rattle.model.specs.declared.machine.Context.{Context}
+use Rattle.model.specs.declared.machine.VirtualProcessor.{VirtualProcessor}
 use Rattle.model.specs.declared.quantity.Page.{Page}
 use Rattle.model.specs.declared.quantity.Processor.{Processor}
 use Rattle.model.specs.Registers.{privateOf}
 use Rattle.model.specs.State.{State, level, levelSet, shape, vp, wordOf, noControl}
 use Rattle.model.specs.Step.{answers, final}
-use Rattle.isolation.specs.Isolation.{Isolated}
+use Rattle.isolation.specs.Isolation.{Isolated, quiet}
 
 abbrev pub contextOf : ℕ → ℕ → Context
 contextOf rip rsp = record { registers = rip ∷ rsp ∷ 0 ∷ 1 ∷ replicate 9 0; tpr = 0; pending = replicate 4 0; secure = replicate 4 0; control = noControl }
 
+-- A processor at level 0: the set of its enabled levels, RIP of level 1 and RSP of level 2.
+abbrev pub processorWith : ℕ → ℕ → ℕ → VirtualProcessor
+processorWith enabled rip rsp = record {
+  active = level 0;
+  enabled = levelSet enabled;
+  shared = replicate 20 0;
+  contexts = contextOf 0 0 ∷ contextOf rip 0 ∷ contextOf 0 rsp ∷ contextOf 0 0 ∷ [];
+}
+
 -- Two processors, levels 0 to 2, two pages. Level 1 has protections on, and its mask of page 1 is 0.
-abbrev pub stateOf : ℕ → ℕ → ℕ → State
-stateOf rip rsp secret = record {
+abbrev pub stateWith : List VirtualProcessor → ℕ → State
+stateWith vps secret = record {
   machine = record {
     processors = 2;
     pages = 2;
     «host_mask» = 15;
     shape = record { «max_level» = level 2; «dr6_shared» = false; smep = false };
     partition = record { enabled = levelSet 7; mbec = levelSet 0; configs = 62 ∷ 63 ∷ 62 ∷ 62 ∷ []; masks = 15 ∷ 15 ∷ 15 ∷ 15 ∷ 15 ∷ 0 ∷ replicate 250 15 };
-    vps = replicate 4 (record {
-      active = level 0;
-      enabled = levelSet 3;
-      shared = replicate 20 0;
-      contexts = contextOf 0 0 ∷ contextOf rip 0 ∷ contextOf 0 rsp ∷ contextOf 0 0 ∷ [];
-    });
+    vps = vps;
   };
   words = 5 ∷ secret ∷ [];
 }
+
+-- Level 1 is enabled on both processors.
+abbrev pub stateOf : ℕ → ℕ → ℕ → State
+stateOf rip rsp secret = stateWith (replicate 4 (processorWith 3 rip rsp)) secret
+
+-- Level 1 is enabled on processor 0 alone; its RIP on processor 1 is 9.
+abbrev pub guarded : State
+guarded = stateWith (processorWith 3 7 0 ∷ processorWith 1 9 0 ∷ replicate 2 (processorWith 1 0 0)) 70
 
 abbrev pub vpOf : ℕ → Processor
 vpOf n = record { 0 = n }
@@ -76,3 +90,5 @@ pub record Instance : Type 0 where
   pub word-kept : wordOf (final two events) 1 ≡ 80
   -- RIP of level 2 on processor 1, which the run first enabled, is equal in both
   pub rip-first : privateOf (shape (final one events)) (vp (final one events) 1) 2 0 ≡ privateOf (shape (final two events)) (vp (final two events) 1) 2 0
+  -- whatever levels below 1 do, RIP of level 1 on processor 1 stands as it began: level 1 is enabled on processor 0, and so guards its processors
+  pub rip-guarded : (es : List Event) → quiet 1 guarded es ≡ true → privateOf (shape (final guarded es)) (vp (final guarded es) 1) 1 0 ≡ 9

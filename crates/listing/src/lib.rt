@@ -52,6 +52,7 @@ pub fn refusal_number(refusal: Refusal) -> u64
         Refusal::LevelZero => 3,
         Refusal::AboveMaximum => 3,
         Refusal::TargetNotAbove => 4,
+        Refusal::TargetGuarded => 4,
         Refusal::TargetAbove => 4,
         Refusal::TargetNotBelow => 4,
         Refusal::ProtectAtLevelZero => 4,

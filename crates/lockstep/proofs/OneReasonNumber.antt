@@ -55,6 +55,7 @@ refusals =
     refusal.TlbLocked ∷
     refusal.NoReadyVector ∷
     refusal.InterruptFlagClear ∷
+    refusal.TargetGuarded ∷
     []
 
 abbrev readBack : ℕ → Refusal
@@ -105,6 +106,7 @@ read-back refusal.HostDenies = refl
 read-back refusal.TlbLocked = refl
 read-back refusal.NoReadyVector = refl
 read-back refusal.InterruptFlagClear = refl
+read-back refusal.TargetGuarded = refl
 
 pub reason-one : (r r′ : Refusal) → refusalReason r ≡ refusalReason r′ → r ≡ r′
 reason-one r r′ e = sym (read-back r) ∙ ap readBack e ∙ read-back r′

@@ -67,6 +67,7 @@ refusalReason refusal.HostDenies = 56
 refusalReason refusal.TlbLocked = 57
 refusalReason refusal.NoReadyVector = 58
 refusalReason refusal.InterruptFlagClear = 59
+refusalReason refusal.TargetGuarded = 60
 
 -- The number of the reason for an answer.
 abbrev pub reasonNumber : Answer → ℕ

@@ -64,6 +64,7 @@ pub fn refusal_reason(refusal: Refusal) -> u64
         Refusal::TlbLocked => 57,
         Refusal::NoReadyVector => 58,
         Refusal::InterruptFlagClear => 59,
+        Refusal::TargetGuarded => 60,
     }
 }
 

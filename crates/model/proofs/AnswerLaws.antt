@@ -202,6 +202,7 @@ not-nine refusal.RcxAboveOne = refl
 not-nine refusal.LevelZero = refl
 not-nine refusal.AboveMaximum = refl
 not-nine refusal.TargetNotAbove = refl
+not-nine refusal.TargetGuarded = refl
 not-nine refusal.TargetAbove = refl
 not-nine refusal.TargetNotBelow = refl
 not-nine refusal.ProtectAtLevelZero = refl

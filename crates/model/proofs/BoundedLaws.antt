@@ -1,12 +1,12 @@
 -- Laws of the tests and searches below a bound. Assumes nothing.
 use mathlib.Core.Path.{_≡_, refl, sym, ap, _∙_}
-use mathlib.Core.Bool.{Bool, true, false, not, cond, _&&_, _||_, and-true, and-false, and-assoc}
+use mathlib.Core.Bool.{Bool, true, false, not, cond, _&&_, _||_, and-true, and-false, and-assoc, or-true}
 use Prim.Native.Nat.{ℕ, zero, suc, _≤_, _<_}
 use native.Mathlib.Omega.{arith}
 use lib.Dec.{eqb}
 use borrow.Author.Tests.{eqb-true, eqb-false, not-true, not-false}
 use Rattle.model.specs.Bounded.{every, any, least, highest}
-use Rattle.model.proofs.Bools.{and-left, and-right, cond-holds}
+use Rattle.model.proofs.Bools.{and-left, and-right, or-elim, cond-holds}
 
 -- What holds of each number below n and of n holds of each below suc n.
 below-suc : (P : ℕ → Type 0) (n i : ℕ) → (i < n → P i) → P n → i < suc n → P i
@@ -62,6 +62,18 @@ any-none n f h = any-every n f ∙ ap not (every-all n (λ i. not (f i)) (λ i l
 
 pub any-cong : (n : ℕ) (f g : ℕ → Bool) → ((i : ℕ) → i < n → f i ≡ g i) → any n f ≡ any n g
 any-cong n f g h = any-every n f ∙ ap not (every-cong n _ _ (λ i l. ap not (h i l))) ∙ sym (any-every n g)
+
+pub any-has : (n : ℕ) (f : ℕ → Bool) (i : ℕ) → i < n → f i ≡ true → any n f ≡ true
+any-has n f i l h = go (any n f) refl
+  where
+    go : (b : Bool) → any n f ≡ b → b ≡ true
+    go true e = refl
+    go false e = sym (any-at n f e i l) ∙ h
+
+pub any-grows : (n : ℕ) (f g : ℕ → Bool) → ((i : ℕ) → i < n → f i ≡ true → g i ≡ true) → any n f ≡ true → any n g ≡ true
+unfolding any
+any-grows zero f g h e = e
+any-grows (suc n) f g h e = or-elim (any n f) (f n) (λ a. rw (any-grows n f g (λ i l. h i (omega arith)) a)) (λ b. rw (h n (omega arith) b, or-true)) e
 
 -- What `least` finds passes; if it finds nothing, it is the bound.
 pub least-le : (n : ℕ) (f : ℕ → Bool) → least n f ≤ n

@@ -14,18 +14,28 @@ use Rattle.model.specs.Hide.{hideSet}
 use Rattle.model.specs.State.{Shape, LevelSet, top, isLevel, inSet, levelSet, levelCount}
 use Rattle.model.specs.Updates.{withLevel}
 use Rattle.model.proofs.Bools.{and-left}
-use Rattle.model.proofs.Four.{level-low}
+use Rattle.model.proofs.Four.{below-four, level-low}
 use Rattle.model.proofs.Sets.{bit-past, bits-lt, bit-bits, bits-cong, bits-below, bits-of}
 
 -- A number below 2 ^ n is the set of its bits.
 pub set-of-bits : (n w : ℕ) → w < 2 ^ n → w ≡ bits n (bit w)
 set-of-bits n w h = sym (bits-of n w ∙ mod-eq-of-lt h)
 
--- The empty set has no level, and nothing to hide.
+-- The empty set has no level.
 pub none-in : (z : Shape) (l : ℕ) → inSet z (levelSet 0) l ≡ false
 unfolding inSet
 none-in z l = rw (bit-past 0 0 l (omega arith) (omega arith)) (and-false (isLevel z l))
 
+-- The set of all four has each level of the machine.
+pub all-in : (z : Shape) (l : ℕ) → inSet z (levelSet 15) l ≡ isLevel z l
+unfolding inSet
+all-in z l = go (isLevel z l) refl
+  where
+    go : (b : Bool) → isLevel z l ≡ b → (b && bit 15 l) ≡ b
+    go true e = below-four (λ j. bit 15 j ≡ true) refl refl refl refl l (level-low z l e)
+    go false e = refl
+
+-- The empty set has nothing to hide.
 pub none-hidden : (z : Shape) → hideSet z (levelSet 0) ≡ levelSet 0
 unfolding hideSet bits
 none-hidden z = ap levelSet (bits-cong 4 (inSet z (levelSet 0)) (λ l. false) (λ l h. none-in z l))

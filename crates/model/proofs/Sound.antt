@@ -268,7 +268,7 @@ module _ (z : Shape) (on mbec : ℕ → Bool) where
     four = unfold started putContext in rw i (length-set (p .contexts) t _ ∙ g .four);
     base = more 0 (g .base);
     current = unfold activeOf started putContext in more (activeOf p) (g .current);
-    each = λ j b. started-cases 0 z p t ip sp cr i (g .four) (λ l up c. l < 4 → SoundContext l (on l) up (mbec l) (enabledAt z q) c)
+    each = λ j b. started-cases z p t ip sp cr i (g .four) (λ l up c. l < 4 → SoundContext l (on l) up (mbec l) (enabledAt z q) c)
         (λ b. let h = g .each t b in record {
           part = λ d. e;
           entry = λ d q. unfold wellEntered in all-hold _ (lt-ltb 0 t o, (more 0 (g .base), (refl, (refl, tt))));
@@ -285,4 +285,4 @@ module _ (z : Shape) (on mbec : ℕ → Bool) where
       q = started z p t ip sp cr
 
       more : (l : ℕ) → enabledAt z p l ≡ true → enabledAt z (started z p t ip sp cr) l ≡ true
-      more l h = started-cases 0 z p t ip sp cr i (g .four) (λ j up c. enabledAt z p j ≡ true → up ≡ true) (λ h. refl) (λ j n h. h) l h
+      more l h = started-cases z p t ip sp cr i (g .four) (λ j up c. enabledAt z p j ≡ true → up ≡ true) (λ h. refl) (λ j n h. h) l h

@@ -1,7 +1,7 @@
 -- A step commutes with hiding: the answer is the same, and the next state is the hidden one of the next state.
 -- Assumes nothing.
 use mathlib.Core.Path.{_≡_, refl, sym, _∙_}
-use mathlib.Core.Bool.{Bool, true, false, not, cond, _&&_, _||_, false≢true}
+use mathlib.Core.Bool.{Bool, true, false, not, cond, _&&_, _||_, false≢true, and-false}
 use mathlib.Core.List.{List, [], _∷_}
 use mathlib.Core.Option.{some}
 use Prim.Native.Nat.{ℕ, zero, suc, _≤_, _<_}
@@ -17,7 +17,7 @@ use Rattle.model.specs.Events.{own, configured, locked}
 use Rattle.model.specs.Masks.{validMask, readBit, writeBit, secureReservedSet, protects}
 use Rattle.model.specs.Memory.{needed, mbecOn, smepAllows, mbecCounts, deniesIn, denies, denied, receiver, hostDeniesBy, hostDenies}
 use Rattle.model.specs.Registers.{cr0, cr4, rflags, rcx, protectedBit, isPrivate, privateOf, sharedOf}
-use Rattle.model.specs.State.{State, Shape, VirtualProcessor, Access, Mode, level, processors, shape, pages, partition, isProcessor, vp, context, activeOf, active, enabledAt, enabledOn, maskOf, hostMask, secureOf, mbecBit}
+use Rattle.model.specs.State.{State, Shape, VirtualProcessor, Access, Mode, level, processors, shape, pages, partition, isProcessor, vp, context, activeOf, active, enabledAt, enabledOn, enabledAnywhere, maskOf, hostMask, secureOf, mbecBit}
 use Rattle.model.specs.Step.{Event, Enpart, Envp, Call, Ret, Read, Write, Fetch, Protect, Config, Secure, Flush, Rreg, Wreg, Tpr, Ack, Pstat, Vstat, Caps, Made, Int, Outcome, rule, ruleOf, maker, modeOf, intercepted, nextFor, ruled, step}
 use Rattle.model.specs.Updates.{enableLevel, setMask, setRegister, setTpr, setSecure}
 use Rattle.model.specs.WellFormed.{wellSized, wellFormedContext, wellFormedVp, wellFormedLevel, wellFormedParts, wellModedVp, wellModed, wellFormed}
@@ -33,9 +33,9 @@ use Rattle.model.proofs.LevelSets.{in-hidden}
 use Rattle.model.proofs.Visible
 use Rattle.model.proofs.Visible.{hidden, context-hide, enabled-same, tpr-same, pending-same, secure-same, control-same, highest-same}
 use Rattle.model.proofs.Whole
-use Rattle.model.proofs.Whole.{processors-same, shape-same, maxLevel-same, pages-same, processor-same, host-same, lent-same, vp-hide, onVp-hide, onPartition-hide, active-hide, enabledOn-hide, partition-hide, enabledFor-hide, mbecFor-hide, config-hide, protects-hide, mask-hide, word-hide, setWord-hide}
+use Rattle.model.proofs.Whole.{processors-same, shape-same, maxLevel-same, pages-same, processor-same, host-same, lent-same, vp-hide, onVp-hide, onPartition-hide, active-hide, enabledOn-hide, anywhere-hide, partition-hide, enabledFor-hide, mbecFor-hide, config-hide, protects-hide, mask-hide, word-hide, setWord-hide}
 
-ruleset Same = (processors-same, shape-same, maxLevel-same, pages-same, active-hide, enabledOn-hide, enabledFor-hide, mbecFor-hide, config-hide, protects-hide, mask-hide)
+ruleset Same = (processors-same, shape-same, maxLevel-same, pages-same, active-hide, enabledOn-hide, anywhere-hide, enabledFor-hide, mbecFor-hide, config-hide, protects-hide, mask-hide)
 
 -- Well-formedness of one processor's record.
 module _ (K : ℕ) (E : ℕ → Bool) (z : Shape) (p : VirtualProcessor) where
@@ -85,7 +85,13 @@ read-of-write m v h = go (eqb m 0) refl (and-right (leb m 15) (eqb m 0 || bit m 
     go true e q = absurd (false≢true (rw (eqb-true m 0 e) at h))
     go false e q = q
 
-module _ (K : ℕ) (E : ℕ → ℕ → Bool) (H : ℕ → Bool) where
+-- An actor below K starts a level only below K, or one that is enabled nowhere, and so was at the start: its registers are not hidden.
+pub start-open : (K : ℕ) (was now : Bool) (actor t : ℕ) → actor < K → (was ≡ true → now ≡ true) → (now && ltb actor t) ≡ false → hides K was t true ≡ false
+unfolding hides
+start-open K false now actor t low grows guard = and-false (leb K t)
+start-open K true now actor t low grows guard = rw (lt-leb K t (let b : t ≤ actor = ltb-false actor t (and-not now (ltb actor t) guard (grows refl)) in omega arith))
+
+module _ (K : ℕ) (E : ℕ → Bool) (H : ℕ → Bool) where
   -- Well-formedness of the state.
   sized-hide : (s : State) → wellSized (hide K E H s) ≡ wellSized s
   unfolding wellSized
@@ -109,7 +115,7 @@ module _ (K : ℕ) (E : ℕ → ℕ → Bool) (H : ℕ → Bool) where
 
   modes-hide : (s : State) → wellModed s ≡ true → wellModed (hide K E H s) ≡ true
   unfolding wellModed
-  modes-hide s h = every-all 4 _ (λ v i. rw (shape-same, vp-hide) (vp-modes K (E v) (shape s) (vp s v) (every-at 4 _ h v i)))
+  modes-hide s h = every-all 4 _ (λ v i. rw (shape-same, vp-hide) (vp-modes K E (shape s) (vp s v) (every-at 4 _ h v i)))
 
   pub formed-hide : (s : State) → wellModed s ≡ true → wellFormed (hide K E H s) ≡ wellFormed s
   unfolding wellFormed
@@ -123,7 +129,7 @@ module _ (K : ℕ) (E : ℕ → ℕ → Bool) (H : ℕ → Bool) where
   -- The actor's own CR4 is seen, so whether MBEC counts is too.
   smep-same : (s : State) (v : ℕ) → active s v < K → smepAllows (shape (hide K E H s)) (vp (hide K E H s) v) (active s v) ≡ smepAllows (shape s) (vp s v) (active s v)
   unfolding smepAllows isPrivate
-  smep-same s v h = rw (shape-same, vp-hide, Visible.private-hide K (E v) (shape s) (vp s v) (active s v) cr4 h refl)
+  smep-same s v h = rw (shape-same, vp-hide, Visible.private-hide K E (shape s) (vp s v) (active s v) cr4 h refl)
 
   counts-same : (s : State) (v t : ℕ) → active s v < K → mbecCounts (hide K E H s) v t (active s v) ≡ mbecCounts s v t (active s v)
   unfolding mbecCounts
@@ -147,20 +153,20 @@ module _ (K : ℕ) (E : ℕ → ℕ → Bool) (H : ℕ → Bool) where
 
   own-same : (s : State) (v r : ℕ) → active s v < K → isPrivate (shape s) r ≡ true → own (hide K E H s) v r ≡ own s v r
   unfolding own
-  own-same s v r h e = simp (shape-same, active-hide, vp-hide) (Visible.private-hide K (E v) (shape s) (vp s v) (active s v) r h e)
+  own-same s v r h e = simp (shape-same, active-hide, vp-hide) (Visible.private-hide K E (shape s) (vp s v) (active s v) r h e)
 
   rcx-same : (s : State) (v : ℕ) → sharedOf (vp (hide K E H s) v) rcx ≡ sharedOf (vp s v) rcx
-  rcx-same s v = rw vp-hide (Visible.shared-hide K (E v) (shape s) (vp s v) rcx refl)
+  rcx-same s v = rw vp-hide (Visible.shared-hide K E (shape s) (vp s v) rcx refl)
 
   locked-same : (s : State) (l : ℕ) → locked (hide K E H s) l ≡ locked s l
   unfolding locked
   locked-same s l = simp (shape-same, vp-hide, secure-same)
 
   nextUp-hide : (s : State) (v : ℕ) → nextUp (shape (hide K E H s)) (vp (hide K E H s) v) ≡ nextUp (shape s) (vp s v)
-  nextUp-hide s v = rw (shape-same, vp-hide) (Visible.nextUp-same K (E v) (shape s) (vp s v))
+  nextUp-hide s v = rw (shape-same, vp-hide) (Visible.nextUp-same K E (shape s) (vp s v))
 
   highest-hide : (s : State) (v l : ℕ) → highestReady (context (shape (hide K E H s)) (vp (hide K E H s) v) l) ≡ highestReady (context (shape s) (vp s v) l)
-  highest-hide s v l = rw (shape-same, vp-hide) (highest-same K (E v) (shape s) (vp s v) l)
+  highest-hide s v l = rw (shape-same, vp-hide) (highest-same K E (shape s) (vp s v) l)
 
   -- The maker's active level is below K.
   pub maker-low : 1 ≤ K → (s : State) (v : ℕ) → quietMaker K s (some v) ≡ true → active s v < K
@@ -197,7 +203,7 @@ module _ (K : ℕ) (E : ℕ → ℕ → Bool) (H : ℕ → Bool) where
   hideOutcome o = record { answer = o .answer; next = hide K E H (o .next) }
 
   -- Done events, at a well-formed state. The levels enabled at the start still are, and H hides no page that is open now.
-  module _ (k : 1 ≤ K) (s : State) (w : wellFormed s ≡ true) (grown : (v l : ℕ) → E v l ≡ true → enabledOn s v l ≡ true) (pages-open : (p : ℕ) → closed K s p ≡ false → H p ≡ false) where
+  module _ (k : 1 ≤ K) (s : State) (w : wellFormed s ≡ true) (grown : (l : ℕ) → E l ≡ true → enabledAnywhere s l ≡ true) (pages-open : (p : ℕ) → closed K s p ≡ false → H p ≡ false) where
     -- A read or write that is done needs bit b of each mask, and a valid mask with bit b has Read: the page is open.
     pub open-page : (a : Access) (b : ℕ) → ((m : Bool) (mode : Mode) → needed m mode a ≡ b) → ((m : ℕ) → validMask m ≡ true → bit m b ≡ true → bit m readBit ≡ true) → (v : ℕ) (mode : Mode) (p : ℕ) → active s v < K →
         denied s v mode p a ≡ false → hostDenies s p a ≡ false → H p ≡ false
@@ -211,26 +217,18 @@ module _ (K : ℕ) (E : ℕ → ℕ → Bool) (H : ℕ → Bool) where
         not-false (bit (maskOf s t p) b) (and-not (ltb (active s v) t && protects s t) (not (bit (maskOf s t p) b)) allows (rw (lt-ltb (active s v) t (omega arith)) (and-right (leb K t) (protects s t) q))) in
         rw (weak (maskOf s t p) (mask-valid s w t p) has)))))
 
-    -- A level that is not enabled was not at the start.
-    not-grown : (v l : ℕ) → enabledOn s v l ≡ false → E v l ≡ false
-    not-grown v l h = go (E v l) refl
-      where
-        go : (b : Bool) → E v l ≡ b → b ≡ false
-        go true e = sym (grown v l e) ∙ h
-        go false e = refl
-
     effect-hide : (e : Event) → quietMaker K s (maker e) ≡ true → Passed (rule s e .refusals) → rule (hide K E H s) e .effect ≡ hide K E H (rule s e .effect)
     unfolding rule ruleOf maker active
     effect-hide (Made v mode (Enpart t mbec)) c ps = onPartition-hide K E H s (λ z x. enableLevel z x (t .0) (eqb mbec 1)) (Whole.enableLevel-hide K E H s (partition s) (t .0) (eqb mbec 1) (is-level s w (t .0) search))
     effect-hide (Made v mode (Envp u t ip sp cr)) c ps =
-        onVp-hide K E H s (u .0) (λ z p. started z p (t .0) ip sp cr) (is-processor s w (u .0) search) (Visible.started-hide K (E (u .0)) (shape s) (vp s (u .0)) (t .0) ip sp cr (is-level s w (t .0) search) (not-grown (u .0) (t .0) search))
+        onVp-hide K E H s (u .0) (λ z p. started z p (t .0) ip sp cr) (is-processor s w (u .0) search) (Visible.started-hide K E (shape s) (vp s (u .0)) (t .0) ip sp cr (is-level s w (t .0) search) (start-open K (E (t .0)) (enabledAnywhere s (t .0)) (active s (v .0)) (t .0) (maker-low k s (v .0) c) (grown (t .0)) search))
     effect-hide (Made v mode (Call len)) c ps =
         let inside = is-processor s w (v .0) search in
-        onVp-hide K E H s (v .0) (λ z p. called z p len) inside (Visible.called-hide K (E (v .0)) (shape s) (vp s (v .0)) len (maker-low k s (v .0) c) (active-level s w (v .0) inside) search)
+        onVp-hide K E H s (v .0) (λ z p. called z p len) inside (Visible.called-hide K E (shape s) (vp s (v .0)) len (maker-low k s (v .0) c) (active-level s w (v .0) inside) search)
     effect-hide (Made v mode (Ret len)) c ps =
         let inside = is-processor s w (v .0) search in
         let above : 0 < activeOf (vp s (v .0)) = positive (activeOf (vp s (v .0))) search in
-        onVp-hide K E H s (v .0) (λ z p. returned z p len) inside (Visible.returned-hide K (E (v .0)) (shape s) (vp s (v .0)) len (maker-low k s (v .0) c) (active-level s w (v .0) inside) above)
+        onVp-hide K E H s (v .0) (λ z p. returned z p len) inside (Visible.returned-hide K E (shape s) (vp s (v .0)) len (maker-low k s (v .0) c) (active-level s w (v .0) inside) above)
     effect-hide (Made v mode (Read p)) c ps = refl
     effect-hide (Made v mode (Write p x)) c ps = setWord-hide K E H s (p .0) x (open-page Access.Write writeBit (unfold needed in λ m mode. refl) read-of-write (v .0) (modeOf mode) (p .0) (maker-low k s (v .0) c) (search) (search))
     effect-hide (Made v mode (Fetch p)) c ps = refl
@@ -240,21 +238,21 @@ module _ (K : ℕ) (E : ℕ → ℕ → Bool) (H : ℕ → Bool) where
         rw pages-same (onPartition-hide K E H s (λ z y. configured z (pages s) y (g .0) x) (Whole.configured-hide K E H s (partition s) (g .0) x (positive _ search) (is-level s w (g .0) search)))
     effect-hide (Made v mode (Secure l x)) c ps =
         let inside = is-processor s w (v .0) search in
-        onVp-hide K E H s (v .0) (λ z p. setSecure z p (activeOf p) (l .0) x) inside (rw Visible.active-same (Visible.setSecure-hide K (E (v .0)) (shape s) (vp s (v .0)) (activeOf (vp s (v .0))) (l .0) x (active-level s w (v .0) inside) (leb-false _ _ search)))
+        onVp-hide K E H s (v .0) (λ z p. setSecure z p (activeOf p) (l .0) x) inside (rw Visible.active-same (Visible.setSecure-hide K E (shape s) (vp s (v .0)) (activeOf (vp s (v .0))) (l .0) x (active-level s w (v .0) inside) (leb-false _ _ search)))
     effect-hide (Made v mode Flush) c ps = refl
     effect-hide (Made v mode (Rreg g r)) c ps = refl
     effect-hide (Made v mode (Wreg g r x)) c ps =
         let low : activeOf (vp s (v .0)) < K = maker-low k s (v .0) c in
         let below : g .0 ≤ activeOf (vp s (v .0)) = ltb-false _ _ search in
-        onVp-hide K E H s (v .0) (λ z p. setRegister z p (g .0) r x) (is-processor s w (v .0) search) (Visible.setRegister-hide K (E (v .0)) (shape s) (vp s (v .0)) (g .0) r x (omega arith) (is-level s w (g .0) search))
+        onVp-hide K E H s (v .0) (λ z p. setRegister z p (g .0) r x) (is-processor s w (v .0) search) (Visible.setRegister-hide K E (shape s) (vp s (v .0)) (g .0) r x (omega arith) (is-level s w (g .0) search))
     effect-hide (Made v mode (Tpr class)) c ps =
         let inside = is-processor s w (v .0) search in
-        onVp-hide K E H s (v .0) (λ z p. setTpr z p (activeOf p) class) inside (rw Visible.active-same (Visible.setTpr-hide K (E (v .0)) (shape s) (vp s (v .0)) (activeOf (vp s (v .0))) class (active-level s w (v .0) inside)))
+        onVp-hide K E H s (v .0) (λ z p. setTpr z p (activeOf p) class) inside (rw Visible.active-same (Visible.setTpr-hide K E (shape s) (vp s (v .0)) (activeOf (vp s (v .0))) class (active-level s w (v .0) inside)))
     effect-hide (Made v mode Ack) c ps =
         let inside = is-processor s w (v .0) search in
-        onVp-hide K E H s (v .0) acknowledged inside (Visible.acknowledged-hide K (E (v .0)) (shape s) (vp s (v .0)) (active-level s w (v .0) inside))
+        onVp-hide K E H s (v .0) acknowledged inside (Visible.acknowledged-hide K E (shape s) (vp s (v .0)) (active-level s w (v .0) inside))
     effect-hide (Int u g n) c ps =
-        onVp-hide K E H s (u .0) (λ z p. interrupted z p (g .0) n) (is-processor s w (u .0) search) (Visible.interrupted-hide K (E (u .0)) (shape s) (vp s (u .0)) (g .0) n (is-level s w (g .0) search))
+        onVp-hide K E H s (u .0) (λ z p. interrupted z p (g .0) n) (is-processor s w (u .0) search) (Visible.interrupted-hide K E (shape s) (vp s (u .0)) (g .0) n (is-level s w (g .0) search))
     effect-hide (Made v mode Pstat) c ps = refl
     effect-hide (Made v mode Vstat) c ps = refl
     effect-hide (Made v mode Caps) c ps = refl
@@ -267,7 +265,7 @@ module _ (K : ℕ) (E : ℕ → ℕ → Bool) (H : ℕ → Bool) where
     value-same (Made v mode (Ret len)) c ps =
         let inside = is-processor s w (v .0) search in
         let above : 0 < activeOf (vp s (v .0)) = positive (activeOf (vp s (v .0))) search in
-        rw (shape-same, vp-hide, Visible.returned-hide K (E (v .0)) (shape s) (vp s (v .0)) len (maker-low k s (v .0) c) (active-level s w (v .0) inside) above) (Visible.active-same K (E (v .0)) (shape s) _)
+        rw (shape-same, vp-hide, Visible.returned-hide K E (shape s) (vp s (v .0)) len (maker-low k s (v .0) c) (active-level s w (v .0) inside) above) (Visible.active-same K E (shape s) _)
     value-same (Made v mode (Read p)) c ps = word-hide K E H s (p .0) (open-page Access.Read readBit (unfold needed in λ m mode. refl) (λ m v h. h) (v .0) (modeOf mode) (p .0) (maker-low k s (v .0) c) (search) (search))
     value-same (Made v mode (Write p x)) c ps = refl
     value-same (Made v mode (Fetch p)) c ps = refl
@@ -278,7 +276,7 @@ module _ (K : ℕ) (E : ℕ → ℕ → Bool) (H : ℕ → Bool) where
     value-same (Made v mode (Rreg g r)) c ps =
         let low : activeOf (vp s (v .0)) < K = maker-low k s (v .0) c in
         let below : g .0 ≤ activeOf (vp s (v .0)) = ltb-false _ _ search in
-        rw (shape-same, vp-hide) (Visible.register-hide K (E (v .0)) (shape s) (vp s (v .0)) (g .0) r (omega arith))
+        rw (shape-same, vp-hide) (Visible.register-hide K E (shape s) (vp s (v .0)) (g .0) r (omega arith))
     value-same (Made v mode (Wreg g r x)) c ps = refl
     value-same (Made v mode (Tpr class)) c ps = refl
     value-same (Made v mode Ack) c ps = simp (active-hide, highest-hide)
@@ -290,7 +288,7 @@ module _ (K : ℕ) (E : ℕ → ℕ → Bool) (H : ℕ → Bool) where
     -- An intercept enters the receiver, a level above 0, on the maker's processor.
     intercepted-hide : (e : Event) (l : ℕ) → Taken s e l → intercepted (hide K E H s) (maker e) l ≡ hide K E H (intercepted s (maker e) l)
     intercepted-hide e l t = rw (t .made) (unfold intercepted in onVp-hide K E H s (t .v) (λ z p. enter z p l byInterrupt) (is-processor s w (t .v) (lt-leb _ _ (t .inside)))
-        (Visible.enter-hide K (E (t .v)) (shape s) (vp s (t .v)) l byInterrupt (let a = t .above in omega arith) (enabled-level (shape s) (vp s (t .v)) l (enabled-at s (t .v) l (t .enabled)))))
+        (Visible.enter-hide K E (shape s) (vp s (t .v)) l byInterrupt (let a = t .above in omega arith) (enabled-level (shape s) (vp s (t .v)) l (enabled-at s (t .v) l (t .enabled)))))
 
     ruled-hide : (e : Event) → quietMaker K s (maker e) ≡ true → ruled (hide K E H s) e ≡ hideOutcome (ruled s e)
     unfolding ruled nextFor
@@ -303,7 +301,7 @@ module _ (K : ℕ) (E : ℕ → ℕ → Bool) (H : ℕ → Bool) where
   -- A state reached from the start.
   pub record Reached (s : State) : Type 0 where
     pub modes : wellModed s ≡ true
-    pub grown : (v l : ℕ) → E v l ≡ true → enabledOn s v l ≡ true
+    pub grown : (l : ℕ) → E l ≡ true → enabledAnywhere s l ≡ true
     pub pages : (p : ℕ) → closed K s p ≡ false → H p ≡ false
 
   pub step-hide : 1 ≤ K → (s : State) → Reached s → (e : Event) → quietMaker K s (maker e) ≡ true → step (hide K E H s) e ≡ hideOutcome (step s e)

@@ -254,8 +254,8 @@ module _ (K : ℕ) (E : ℕ → Bool) (z : Shape) where
   unfolding acknowledged
   acknowledged-hide p k = simp (active-same, highest-same) (setPending-hide p (activeOf p) _ 0 k)
 
-  -- A level that the run first enables: its registers are seen from now on, and the other levels are hidden as before.
-  module _ (p : VirtualProcessor) (t ip sp cr : ℕ) (k : isLevel z t ≡ true) (e : E t ≡ false) where
+  -- A level that starts and is not hidden from then on: its registers are seen, and the other levels are hidden as before.
+  module _ (p : VirtualProcessor) (t ip sp cr : ℕ) (k : isLevel z t ≡ true) (e : hides K (E t) t true ≡ false) where
     enabled : LevelSet
     enabled = withLevel z (p .enabled) t true
 
@@ -267,8 +267,8 @@ module _ (K : ℕ) (E : ℕ → Bool) (z : Shape) where
     others l n c = rw (in-other z (p .enabled) t true k l n)
 
     its-own : startedContext (context z (hideVp K E z p) t) ip sp cr ≡ hideLevel K E z enabled t begun
-    unfolding hideLevel hidden hideContext hides isPrivate mapAt enabled begun
-    its-own = rw (k, context-hide) (simp (in-here z (p .enabled) t true k, e, and-false, cond-same))
+    unfolding hideLevel hidden hideContext isPrivate mapAt enabled begun
+    its-own = rw (k, context-hide) (simp (in-here z (p .enabled) t true k, e, cond-same))
 
     pub started-hide : started z (hideVp K E z p) t ip sp cr ≡ hideVp K E z (started z p t ip sp cr)
     unfolding started putContext hideVp enabled begun

@@ -1,5 +1,5 @@
 -- The same for the whole state: what hiding does to each thing that is read of it, and that each update commutes with hiding.
--- E tells the levels enabled at the start on each processor, H the hidden pages. Assumes nothing.
+-- E tells the levels enabled on some processor at the start, H the hidden pages. Assumes nothing.
 use mathlib.Core.Path.{_≡_, refl, sym, ap, _∙_}
 use mathlib.Core.Bool.{Bool, true, false, not, cond, _&&_}
 use mathlib.Core.List.{List}
@@ -12,9 +12,10 @@ use Rattle.model.specs.Arrays.{numberAt, stored}
 use Rattle.model.specs.Events.{configured}
 use Rattle.model.specs.Masks.{turnsOn, defaultMask, protectsIn, protects}
 use Rattle.model.specs.Memory.{deniesIn}
-use Rattle.model.specs.State.{State, Partition, Shape, VirtualProcessor, Access, Mode, levelSet, noContext, noVp, pastVp, processors, shape, top, maxLevel, pages, partition, isLevel, isProcessor, isPage, vp, activeOf, active, enabledOn, enabledFor, mbecFor, configIn, configOf, maskIn, maskOf, hostMask, wordOf}
+use Rattle.model.specs.State.{State, Partition, Shape, VirtualProcessor, Access, Mode, levelSet, noContext, noVp, pastVp, processors, shape, top, maxLevel, pages, partition, isLevel, isProcessor, isPage, vp, activeOf, active, enabledOn, enabledAnywhere, enabledFor, mbecFor, configIn, configOf, maskIn, maskOf, hostMask, wordOf}
 use Rattle.model.specs.Updates.{enableLevel, setConfig, putVp, putPartition, setMask, filled, fillMasks, setWord, onVp, onPartition}
 use Rattle.model.proofs.Bools.{and-left, and-right, cond-same, cond-ap}
+use Rattle.model.proofs.BoundedLaws.{any-cong}
 use Rattle.model.proofs.Four.{level-low}
 use Rattle.model.proofs.LevelSets.{none-in, none-hidden, in-hidden, with-hidden}
 use Rattle.model.specs.Hide.{closed, hideLevel, hideVp, hidePartition, isMask, hideMachine, hide}
@@ -36,7 +37,7 @@ hideVp-past : (K : ℕ) (E : ℕ → Bool) (z : Shape) → hideVp K E z pastVp �
 unfolding hideVp
 hideVp-past K E z = simp (mapAt-nil, none-hidden)
 
-module _ (K : ℕ) (E : ℕ → ℕ → Bool) (H : ℕ → Bool) where
+module _ (K : ℕ) (E : ℕ → Bool) (H : ℕ → Bool) where
   -- The sizes, and what else is not hidden.
   pub processors-same : (s : State) → processors (hide K E H s) ≡ processors s
   unfolding hide hideMachine processors
@@ -67,31 +68,35 @@ module _ (K : ℕ) (E : ℕ → ℕ → Bool) (H : ℕ → Bool) where
   lent-same s = length-mapAt _ (s .words)
 
   -- Processors.
-  pub vp-hide : (s : State) (v : ℕ) → vp (hide K E H s) v ≡ hideVp K (E v) (shape s) (vp s v)
+  pub vp-hide : (s : State) (v : ℕ) → vp (hide K E H s) v ≡ hideVp K E (shape s) (vp s v)
   unfolding vp hide hideMachine
   vp-hide s v = rw processor-same (go (isProcessor s v) refl)
     where
-      go : (b : Bool) → isProcessor s v ≡ b → cond b (getD (mapAt (λ v p. cond (isProcessor s v) (hideVp K (E v) (shape s) p) noVp) (s .machine .vps)) v pastVp) noVp ≡ hideVp K (E v) (shape s) (cond b (getD (s .machine .vps) v pastVp) noVp)
-      go true e = getD-mapAt (λ v p. cond (isProcessor s v) (hideVp K (E v) (shape s) p) noVp) (s .machine .vps) v pastVp (rw e (hideVp-past K (E v) (shape s))) ∙ rw e
-      go false e = sym (hideVp-none K (E v) (shape s))
+      go : (b : Bool) → isProcessor s v ≡ b → cond b (getD (mapAt (λ v p. cond (isProcessor s v) (hideVp K E (shape s) p) noVp) (s .machine .vps)) v pastVp) noVp ≡ hideVp K E (shape s) (cond b (getD (s .machine .vps) v pastVp) noVp)
+      go true e = getD-mapAt (λ v p. cond (isProcessor s v) (hideVp K E (shape s) p) noVp) (s .machine .vps) v pastVp (rw e (hideVp-past K E (shape s))) ∙ rw e
+      go false e = sym (hideVp-none K E (shape s))
 
-  pub putVp-hide : (s : State) (v : ℕ) (p : VirtualProcessor) → isProcessor s v ≡ true → putVp (hide K E H s) v (hideVp K (E v) (shape s) p) ≡ hide K E H (putVp s v p)
+  pub putVp-hide : (s : State) (v : ℕ) (p : VirtualProcessor) → isProcessor s v ≡ true → putVp (hide K E H s) v (hideVp K E (shape s) p) ≡ hide K E H (putVp s v p)
   unfolding putVp isProcessor processors isPage pages isMask shape hide hideMachine hidePartition
   putVp-hide s v p h = rw (mapAt-stored, h)
 
   -- A change of one processor's record that commutes with hiding.
-  pub onVp-hide : (s : State) (v : ℕ) (f : Shape → VirtualProcessor → VirtualProcessor) → isProcessor s v ≡ true → f (shape s) (hideVp K (E v) (shape s) (vp s v)) ≡ hideVp K (E v) (shape s) (f (shape s) (vp s v)) →
+  pub onVp-hide : (s : State) (v : ℕ) (f : Shape → VirtualProcessor → VirtualProcessor) → isProcessor s v ≡ true → f (shape s) (hideVp K E (shape s) (vp s v)) ≡ hideVp K E (shape s) (f (shape s) (vp s v)) →
       onVp (hide K E H s) v f ≡ hide K E H (onVp s v f)
   unfolding onVp
   onVp-hide s v f h e = rw (shape-same, vp-hide, e) (putVp-hide s v (f (shape s) (vp s v)) h)
 
   pub active-hide : (s : State) (v : ℕ) → active (hide K E H s) v ≡ active s v
   unfolding active
-  active-hide s v = ap activeOf (vp-hide s v) ∙ active-same K (E v) (shape s) (vp s v)
+  active-hide s v = ap activeOf (vp-hide s v) ∙ active-same K E (shape s) (vp s v)
 
   pub enabledOn-hide : (s : State) (v l : ℕ) → enabledOn (hide K E H s) v l ≡ enabledOn s v l
   unfolding enabledOn
-  enabledOn-hide s v l = rw (shape-same, vp-hide) (enabled-same K (E v) (shape s) (vp s v) l)
+  enabledOn-hide s v l = rw (shape-same, vp-hide) (enabled-same K E (shape s) (vp s v) l)
+
+  pub anywhere-hide : (s : State) (l : ℕ) → enabledAnywhere (hide K E H s) l ≡ enabledAnywhere s l
+  unfolding enabledAnywhere
+  anywhere-hide s l = any-cong 4 _ _ (λ v i. enabledOn-hide s v l)
 
   -- What the partition holds.
   pub partition-hide : (s : State) → partition (hide K E H s) ≡ hidePartition s (partition s)

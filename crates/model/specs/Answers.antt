@@ -40,6 +40,7 @@ refusalNumber refusal.LevelZero = 3
 refusalNumber refusal.AboveMaximum = 3
 -- 4: the acting level has no right to it
 refusalNumber refusal.TargetNotAbove = 4
+refusalNumber refusal.TargetGuarded = 4
 refusalNumber refusal.TargetAbove = 4
 refusalNumber refusal.TargetNotBelow = 4
 refusalNumber refusal.ProtectAtLevelZero = 4

@@ -12,7 +12,7 @@ use Rattle.model.specs.Entry.{highestReady, nextUp, called, returned, en
 use Rattle.model.specs.Masks.{validMask, kernelOnly, defaultMask, turnsOn, reservedSet, secureReservedSet, protectsIn, protects}
 use Rattle.model.specs.Memory.{denied, receiver, hostDenies, mbecOn, isUser}
 use Rattle.model.specs.Registers.{cr0, rflags, rcx, protectedBit, interruptBit, privateOf, sharedOf, registerOf}
-use Rattle.model.specs.State.{State, Partition, Shape, Access, Mode, processors, maxLevel, pages, isLevel, shape, vp, context, level, noLevel, activeOf, active, enabledOn, enabledFor, mbecFor, configOf, wordOf, secureOf, mbecBit, lockBit}
+use Rattle.model.specs.State.{State, Partition, Shape, Access, Mode, processors, maxLevel, pages, isLevel, shape, vp, context, level, noLevel, activeOf, active, enabledOn, enabledAnywhere, enabledFor, mbecFor, configOf, wordOf, secureOf, mbecBit, lockBit}
 use Rattle.model.specs.Updates.{enableLevel, setConfig, setMask, fillMasks, setRegister, setTpr, setSecure, setWord, onVp, onPartition}
 
 -- What an event is refused or intercepted for, and its value and next state where it is done.
@@ -49,11 +49,13 @@ enpart s v mode t mbec = record {
   effect = onPartition s (λ z x. enableLevel z x t (eqb mbec 1));
 }
 
--- envp v mode w t rip rsp cr0: 1 if cr0 bit 0 is clear; 3, 4 as above; 5 if t is enabled on w; 6 if not for the partition.
+-- envp v mode w t rip rsp cr0: 1 if cr0 bit 0 is clear; 3 as above; 4 (02, request 5): once t is enabled on any processor, if the actor is below t, and
+-- before that if it is not; 5 if t is enabled on w; 6 if not for the partition.
 abbrev pub envp : State → ℕ → Mode → ℕ → ℕ → ℕ → ℕ → ℕ → Rule
 envp s v mode w t ip sp cr = record {
   refusals = Refusal.NoSuchTarget when leb (processors s) w ∷ outOfRange t ∷ Refusal.Cr0InRealMode when not (bit cr protectedBit) ∷ kernel mode (
-      levelZero t ∷ aboveMaximum s t ∷ Refusal.TargetNotAbove when leb t (active s v) ∷ Refusal.EnabledOnProcessor when enabledOn s w t
+      levelZero t ∷ aboveMaximum s t ∷ Refusal.TargetNotAbove when (not (enabledAnywhere s t) && leb t (active s v))
+      ∷ Refusal.TargetGuarded when (enabledAnywhere s t && ltb (active s v) t) ∷ Refusal.EnabledOnProcessor when enabledOn s w t
       ∷ Refusal.NotEnabledForPartition when not (enabledFor s t) ∷ []);
   value = 0;
   effect = onVp s w (λ z p. started z p t ip sp cr);

@@ -15,8 +15,9 @@ use Rattle.model.specs.MapAt.{mapAt}
 unfoldable pub closed : ℕ → State → ℕ → Bool
 closed K s p = not (bit (hostMask s p) readBit) || any 4 (λ t. leb K t && protects s t && not (bit (maskOf s t p) readBit))
 
--- Private registers of level l, from K up, enabled or not; but not of a level that the run first enables on the processor. `was`
--- and `is` tell whether it is enabled there at the start and now.
+-- Private registers of level l, from K up, enabled or not; but not of a level that the run first enables on the processor, which concerns
+-- only levels that are enabled on no processor at the start (02, request 5). `was` tells whether it is enabled on some processor at the start,
+-- `is` whether it is enabled on this one now.
 unfoldable pub hides : ℕ → Bool → ℕ → Bool → Bool
 hides K was l is = leb K l && (was || not is)
 
@@ -36,7 +37,7 @@ hideContext z h on l c = record {
   control = cond (eqb l 0) noControl (c .control);
 }
 
--- A processor; E tells the levels enabled on it at the start. No part of a state: levels above M, and DR6 here where it is private.
+-- A processor; E tells the levels enabled on some processor at the start. No part of a state: levels above M, and DR6 here where it is private.
 unfoldable pub hideLevel : ℕ → (ℕ → Bool) → Shape → LevelSet → ℕ → Context → Context
 hideLevel K E z enabled l c =
     let on = inSet z enabled l in cond (isLevel z l) (hideContext z (hides K (E l) l on) on l c) noContext
@@ -62,18 +63,18 @@ hidePartition s x = record {
   masks = mapAt (λ i k. cond (isMask s i) k 0) (x .masks);
 }
 
--- The state. E tells the levels enabled on each processor at the start, H the pages whose words are hidden.
-unfoldable pub hideMachine : ℕ → (ℕ → ℕ → Bool) → State → Machine
+-- The state. E tells the levels enabled on some processor at the start, H the pages whose words are hidden.
+unfoldable pub hideMachine : ℕ → (ℕ → Bool) → State → Machine
 hideMachine K E s = record {
   processors = s .machine .processors;
   pages = s .machine .pages;
   «host_mask» = s .machine .«host_mask»;
   shape = s .machine .shape;
   partition = hidePartition s (s .machine .partition);
-  vps = mapAt (λ v p. cond (isProcessor s v) (hideVp K (E v) (shape s) p) noVp) (s .machine .vps);
+  vps = mapAt (λ v p. cond (isProcessor s v) (hideVp K E (shape s) p) noVp) (s .machine .vps);
 }
 
-unfoldable pub hide : ℕ → (ℕ → ℕ → Bool) → (ℕ → Bool) → State → State
+unfoldable pub hide : ℕ → (ℕ → Bool) → (ℕ → Bool) → State → State
 hide K E H s = record { machine = hideMachine K E s; words = mapAt (λ p x. cond (H p) 0 x) (s .words) }
 
 -- No level from K up is active on the maker's processor. An event without v, or with v out of range, has no maker.

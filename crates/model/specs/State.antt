@@ -19,7 +19,7 @@ pub use Rattle.model.specs.declared.quantity.Mode.{Mode}
 pub use Rattle.model.specs.declared.quantity.Access.{Access}
 pub use Rattle.model.specs.declared.machine.FirstLine.{FirstLine}
 use Rattle.model.specs.Arrays.{numberAt}
-use Rattle.model.specs.Bounded.{allOf}
+use Rattle.model.specs.Bounded.{any, allOf}
 
 -- The machine, and the words of its pages, which the caller lends.
 pub record State : Type 0 where
@@ -116,13 +116,18 @@ inSet z x l = isLevel z l && bit (x .0) l
 abbrev pub levelCount : Shape → ℕ
 levelCount z = cond (ltb (top z) 4) (top z + 1) 4
 
--- Level l is enabled on a processor, on processor v, for the partition.
+-- Level l is enabled on a processor, and on processor v.
 unfoldable pub enabledAt : Shape → VirtualProcessor → ℕ → Bool
 enabledAt z p l = inSet z (p .enabled) l
 
 unfoldable pub enabledOn : State → ℕ → ℕ → Bool
 enabledOn s v l = enabledAt (shape s) (vp s v) l
 
+-- Level l is enabled on some processor, one of the V, as the state now is (02, request 5).
+unfoldable pub enabledAnywhere : State → ℕ → Bool
+enabledAnywhere s l = any 4 (λ v. enabledOn s v l)
+
+-- Level l is enabled for the partition.
 unfoldable pub enabledFor : State → ℕ → Bool
 enabledFor s l = inSet (shape s) (partition s .enabled) l
 

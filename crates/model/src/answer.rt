@@ -64,8 +64,10 @@ pub enum Refusal {
     LevelZero,
     // a level above M
     AboveMaximum,
-    // enpart, envp: the target is not above the actor
+    // enpart, and envp of a target that is enabled on no processor: the target is not above the actor
     TargetNotAbove,
+    // envp: the target is enabled on some processor, and the actor is below it
+    TargetGuarded,
     // config, rreg, wreg: the target is above the actor
     TargetAbove,
     // secure: the target is not below the actor

@@ -52,10 +52,10 @@ quiet-maker s (Made v mode a) w = go (leb (processors s) (v .0)) refl
 quiet-maker s (Int u g n) w = refl
 
 -- One step, from the state and from what is part of it.
-plain-step : (s : State) (e : Event) → wellFormed s ≡ true → step (plain s) e ≡ hideOutcome 4 (λ v l. false) (λ p. false) (step s e)
+plain-step : (s : State) (e : Event) → wellFormed s ≡ true → step (plain s) e ≡ hideOutcome 4 (λ l. false) (λ p. false) (step s e)
 unfolding plain
-plain-step s e w = step-hide 4 (λ v l. false) (λ p. false) (omega arith) s
-    (record { modes = well-moded s w; grown = λ v l h. absurd (false≢true h); pages = λ p h. refl }) e (quiet-maker s e w)
+plain-step s e w = step-hide 4 (λ l. false) (λ p. false) (omega arith) s
+    (record { modes = well-moded s w; grown = λ l h. absurd (false≢true h); pages = λ p h. refl }) e (quiet-maker s e w)
 
 record Goes (s : State) (lines : List (List ℕ)) : Type 0 where
   records : told (plain s) lines ≡ told s lines
@@ -69,7 +69,7 @@ goes-line : (s : State) (said : Parsed) (more : List (List ℕ)) → wellFormed 
 goes-line s (parsed.Malformed refusal) more w rest = let r = rest s w in (rw (r .records), r .state)
 goes-line s (parsed.Event e) more w rest =
     let r = rest (step s e .next) (step-keeps s e w) in
-    let on : active (plain (step s e .next)) (processorOf e .0) ≡ active (step s e .next) (processorOf e .0) = unfold plain in active-hide 4 (λ v l. false) (λ p. false) (step s e .next) (processorOf e .0) in
+    let on : active (plain (step s e .next)) (processorOf e .0) ≡ active (step s e .next) (processorOf e .0) = unfold plain in active-hide 4 (λ l. false) (λ p. false) (step s e .next) (processorOf e .0) in
     let same : step (plain s) e ≡ record { answer = step s e .answer; next = plain (step s e .next) } = unfold plain in plain-step s e w in
     (rw (same, on, r .records), rw same (r .state))
 

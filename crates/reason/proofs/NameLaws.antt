@@ -42,6 +42,7 @@ name-says refusal.RcxAboveOne = refl
 name-says refusal.LevelZero = refl
 name-says refusal.AboveMaximum = refl
 name-says refusal.TargetNotAbove = refl
+name-says refusal.TargetGuarded = refl
 name-says refusal.TargetAbove = refl
 name-says refusal.TargetNotBelow = refl
 name-says refusal.ProtectAtLevelZero = refl

@@ -41,6 +41,7 @@ reasonName refusal.LevelZero = bytes "target-level-0"
 reasonName refusal.AboveMaximum = bytes "level-above-maximum"
 -- 4
 reasonName refusal.TargetNotAbove = bytes "target-not-above-actor"
+reasonName refusal.TargetGuarded = bytes "target-guarded"
 reasonName refusal.TargetAbove = bytes "target-above-actor"
 reasonName refusal.TargetNotBelow = bytes "target-not-below-actor"
 reasonName refusal.ProtectAtLevelZero = bytes "protect-at-level-0"
@@ -74,7 +75,7 @@ refusals =
     refusal.MbecOutOfRange ∷ refusal.LengthOutOfRange ∷ refusal.ClassOutOfRange ∷ refusal.VectorOutOfRange ∷
     refusal.NoSuchRegister ∷ refusal.NoSuchPage ∷ refusal.InvalidMask ∷ refusal.ReservedBits ∷ refusal.Cr0InRealMode ∷
     refusal.UserMode ∷ refusal.CallInRealMode ∷ refusal.RcxNotZero ∷ refusal.NoHigherLevel ∷ refusal.ReturnAtLevelZero ∷
-    refusal.RcxAboveOne ∷ refusal.LevelZero ∷ refusal.AboveMaximum ∷ refusal.TargetNotAbove ∷ refusal.TargetAbove ∷
+    refusal.RcxAboveOne ∷ refusal.LevelZero ∷ refusal.AboveMaximum ∷ refusal.TargetNotAbove ∷ refusal.TargetGuarded ∷ refusal.TargetAbove ∷
     refusal.TargetNotBelow ∷ refusal.ProtectAtLevelZero ∷ refusal.EnabledForPartition ∷ refusal.EnabledOnProcessor ∷
     refusal.NotEnabledForPartition ∷ refusal.NotEnabledOnProcessor ∷ refusal.ProtectionsOff ∷ refusal.NoMbec ∷
     refusal.ProtectionsCleared ∷ refusal.DefaultMaskChanged ∷ refusal.KernelOnlyExecute ∷ refusal.NoReceiver ∷

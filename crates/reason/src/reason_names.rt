@@ -44,6 +44,7 @@ pub fn name_of(refusal: Refusal) -> NameText
         Refusal::LevelZero => NameText(*b"\ttarget-level-0\n                ", 16),
         Refusal::AboveMaximum => NameText(*b"\tlevel-above-maximum\n           ", 21),
         Refusal::TargetNotAbove => NameText(*b"\ttarget-not-above-actor\n        ", 24),
+        Refusal::TargetGuarded => NameText(*b"\ttarget-guarded\n                ", 16),
         Refusal::TargetAbove => NameText(*b"\ttarget-above-actor\n            ", 20),
         Refusal::TargetNotBelow => NameText(*b"\ttarget-not-below-actor\n        ", 24),
         Refusal::ProtectAtLevelZero => NameText(*b"\tprotect-at-level-0\n            ", 20),

@@ -139,7 +139,7 @@ module _ (s : State) (w : wellFormed s ≡ true) (sized : Sized s) where
 
   plain-formed : wellFormed (plain s) ≡ true
   unfolding plain
-  plain-formed = formed-hide 4 (λ v l. false) (λ p. false) s (well-moded s w) ∙ w
+  plain-formed = formed-hide 4 (λ l. false) (λ p. false) s (well-moded s w) ∙ w
 
   good-first : admissible (firstOf (setupAt s)) ≡ true
   unfolding admissible wellSized wellFormedParts processors pages maxLevel shape top

@@ -105,7 +105,7 @@ stateFrom setup g = record {
 
 -- All that is part of a state: nothing is hidden from above the highest level, and what is no part gets fixed values.
 unfoldable pub plain : State → State
-plain s = hide 4 (λ v l. false) (λ p. false) s
+plain s = hide 4 (λ l. false) (λ p. false) s
 
 -- The arrays have their sizes and each quantity is a word, as in every state that code lends.
 pub record SizedContext (k : Context) : Type 0 where

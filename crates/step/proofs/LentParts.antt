@@ -1,6 +1,6 @@
 -- The parts of the lent state: it has them, and it has the parts that a function leaves. Assumes nothing.
 use mathlib.Core.Path.{_≡_, refl, sym, ap, _∙_}
-use mathlib.Core.Bool.{true}
+use mathlib.Core.Bool.{Bool, true, false, _&&_, or-true, and-false}
 use mathlib.Core.List.{List, []}
 use Prim.Native.Nat.{ℕ, _<_}
 use lib.Dec.{ltb}
@@ -8,15 +8,17 @@ use lib.ListN.{getD, set, length}
 use lib.Seq.{getD-set-same, getD-set-other}
 use native.Mathlib.Omega.{arith}
 use borrow.Author.Tests.{ltb-true, lt-ltb}
+use Rattle.word.specs.Field.{bit}
 use Rattle.model.proofs.Bools.{and-right}
+use Rattle.model.proofs.BoundedLaws.{any-at, any-none}
 use Rattle.model.proofs.Four.{four-at, four-set}
 use Rattle.model.specs.declared.machine.Setup.{Setup}
 use Rattle.model.specs.Arrays.{stored}
-use Rattle.model.specs.State.{State, activeOf, active, processors, shape, pages, partition, isIndex, isProcessor, vp, pastVp}
+use Rattle.model.specs.State.{State, activeOf, active, processors, shape, pages, partition, isIndex, isLevel, isProcessor, inSet, vp, pastVp, enabledAt, enabledOn, enabledAnywhere}
 use Rattle.model.specs.Updates.{withVps, putVp, putPartition}
 use Rattle.partition.specs.PartitionView.{partitionOf}
 use Rattle.processor.specs.Record.{vpOf, vpsOf}
-use Rattle.promise.specs.Promise.{Runs, Acts, Lends}
+use Rattle.promise.specs.Promise.{Runs, Acts, Elsewhere, Lends}
 use Rattle.access_events.specs.Access.{putAccess}
 use Rattle.state.specs.Lent.{machineOf, lent}
 
@@ -31,6 +33,19 @@ vps-set rows w row size h =
 
 pub index-low : (n v : ℕ) → isIndex n v ≡ true → v < 4
 index-low n v h = ltb-true v 4 (and-right (ltb v n) (ltb v 4) h)
+
+-- A level that is enabled on some processor is one of the machine's; one that is enabled on none is not enabled on this one.
+level-somewhere : (s : State) (t : ℕ) → enabledAnywhere s t ≡ true → isLevel (shape s) t ≡ true
+unfolding enabledAnywhere enabledOn enabledAt inSet
+level-somewhere s t e = go (isLevel (shape s) t) refl
+  where
+    go : (b : Bool) → isLevel (shape s) t ≡ b → b ≡ true
+    go true i = refl
+    go false i = sym (any-none 4 (λ v. isLevel (shape s) t && bit (vp s v .enabled .0) t) (λ v l. rw i)) ∙ e
+
+nowhere-on : (s : State) (t w : ℕ) → w < 4 → enabledAnywhere s t ≡ false → enabledOn s w t ≡ false
+unfolding enabledAnywhere
+nowhere-on s t w l e = any-at 4 (λ v. enabledOn s v t) e w l
 
 module _ (setup : Setup) (levels masks : List ℕ) (rows : List (List ℕ)) (words : List ℕ) where
   abbrev s : State
@@ -68,6 +83,19 @@ module _ (setup : Setup) (levels masks : List ℕ) (rows : List (List ℕ)) (wor
     pub acts : (l : ℕ) → l ≡ activeOf (vpOf (getD rows w [])) → Acts (setup .shape) (setup .pages) (partitionOf levels masks) l s w
     unfolding pages machineOf
     acts l e = record { shaped = shaped; paged = refl; keeps = keeps; actor = acting l e }
+
+    -- A level that is enabled on some processor is enabled on this one, or is told to be elsewhere.
+    enabled-here : (t : ℕ) → enabledOn s w t ≡ enabledAt (setup .shape) (vpOf (getD rows w [])) t
+    unfolding enabledOn
+    enabled-here t = rw (shaped, holds)
+
+    pub others : (t : ℕ) (elsewhere : Bool) → enabledAnywhere s t ≡ elsewhere → Elsewhere (setup .shape) (vpOf (getD rows w [])) t elsewhere s
+    others t true e =
+        let level : isLevel (setup .shape) t ≡ true = rw shaped at (level-somewhere s t e) in
+        record { anywhere = e ∙ sym (rw level (or-true (enabledAt (setup .shape) (vpOf (getD rows w [])) t))) }
+    others t false e =
+        let off : enabledAt (setup .shape) (vpOf (getD rows w [])) t ≡ false = sym (enabled-here t) ∙ nowhere-on s t w (index-low (setup .processors) w h) e in
+        record { anywhere = e ∙ sym (rw off (and-false (isLevel (setup .shape) t))) }
 
     pub record-left : (row : List ℕ) → length rows ≡ 4 → putVp s w (vpOf row) ≡ lent setup levels masks (set rows w row) words
     unfolding putVp stored machineOf

@@ -8,13 +8,14 @@ ghost use lib.ListN.{length};
 ghost use Rattle.word.specs.Field.{bit};
 ghost use Rattle.model.specs.Bounded.{any};
 ghost use Rattle.model.specs.Events.{locked as lockedFor};
-ghost use Rattle.model.specs.State.{isIndex, noVp, secureOf, lockBit};
+ghost use Rattle.model.specs.State.{enabledAt, enabledAnywhere, isIndex, noVp, secureOf, lockBit};
 ghost use Rattle.model.specs.Step.{acted as actedOf, ruled as ruledOf, step as stepOf};
 ghost use Rattle.processor.specs.Record.{vpOf};
 ghost use Rattle.promise.specs.Promise.{result};
 ghost use Rattle.state.specs.Lent.{lent};
 ghost use Rattle.step.specs.Stepped.{stepIf};
 use access_events::Request;
+use entry_events::Target;
 use level_events::config;
 use level_events::enpart;
 use level_events::protect;
@@ -34,6 +35,7 @@ use partition::mask::Masks;
 use processor::control::InitialContext;
 use processor::record::Record;
 use processor::record::active_of;
+use processor::record::enabled_at;
 use processor::secure::holds_lock;
 use register_events::rreg;
 use register_events::secure;
@@ -84,6 +86,26 @@ fn locked(setup: Setup, vps: &[Record; 4], level: Level) -> bool
     zeroth | first | second | third
 }
 
+// Is the level enabled on the processor with that record, if there is one?
+fn enabled_there(there: bool, shape: Shape, vp: &Record, level: Level) -> bool
+    ensures { λ r. ⌜ r ≡ enabledAt shape (cond there (vpOf (now (vp .entry))) noVp) (level .0) ⌝ }
+{
+    let enabled = enabled_at(shape, vp, level);
+    there & enabled
+}
+
+// envp: is the level enabled on any processor?
+fn enabled_anywhere(setup: Setup, vps: &[Record; 4], level: Level) -> bool
+    ensures { λ r. ⌜ ((levels masks words : List ℕ)
+        → enabledAnywhere (lent setup levels masks (now (vps .entry)) words) (level .0) ≡ r) ⌝ }
+{
+    let zeroth = enabled_there(0 < setup.processors, setup.shape, &vps[0], level);
+    let first = enabled_there(1 < setup.processors, setup.shape, &vps[1], level);
+    let second = enabled_there(2 < setup.processors, setup.shape, &vps[2], level);
+    let third = enabled_there(3 < setup.processors, setup.shape, &vps[3], level);
+    zeroth | first | second | third
+}
+
 // The rule of what a level does on a processor that is there.
 fn acted(
     setup: Setup,
@@ -117,7 +139,12 @@ fn acted(
             if !is_processor(setup.processors, on) {
                 return Answer::Refused(Refusal::NoSuchTarget);
             }
+            let elsewhere = enabled_anywhere(setup, vps, target);
             let j = on.0 as usize;
+            let target = Target {
+                level: target,
+                elsewhere,
+            };
             let initial = InitialContext { rip, rsp, cr0 };
             entry_events::envp(shape, levels, &mut vps[j], actor, mode, target, initial)
         }

@@ -11,15 +11,15 @@ use Rattle.model.specs.declared.event.Action.{Action}
 use Rattle.model.specs.declared.quantity.Mode.{Mode}
 use Rattle.model.specs.declared.quantity.Processor.{Processor}
 use Rattle.model.specs.Events.{locked}
-use Rattle.model.specs.State.{State, processors, shape, partition, isIndex, isProcessor, activeOf, active}
+use Rattle.model.specs.State.{State, processors, shape, partition, isIndex, isProcessor, enabledAnywhere, activeOf, active}
 use Rattle.model.specs.Step.{acted}
 use Rattle.model.specs.Updates.{putVp, putPartition}
 use Rattle.partition.specs.PartitionView.{partitionOf}
 use Rattle.access_events.specs.Access.{putAccess}
 use Rattle.processor.specs.Record.{vpOf}
-use Rattle.promise.specs.Promise.{result, Runs, Acts, Lends}
+use Rattle.promise.specs.Promise.{result, Runs, Acts, Elsewhere, Lends}
 use Rattle.state.specs.Lent.{machineOf, lent}
-use Rattle.step.proofs.LentParts.{index-low, lends, shaped, keeps, there, runs, acts, record-left, access-left, partition-left}
+use Rattle.step.proofs.LentParts.{index-low, lends, shaped, keeps, there, runs, acts, others, record-left, access-left, partition-left}
 use Rattle.step.proofs.MissingProcessor.{no-second}
 use borrow.Author.Needs.{needs}
 use Rattle.step.proofs.acted.Statement.{statement}
@@ -72,6 +72,10 @@ module _ (c : tie.After-active-of) (a : Action) (told : c .before .before .befor
   other-runs : (w : Processor) → isIndex (x .args .setup .processors) (w .0) ≡ true → Runs (x .args .setup .shape) (vpOf (getD rows (w .0) [])) old (w .0)
   other-runs w h = runs (x .args .setup) (x .args .levels .now) (x .args .masks .now) rows (x .args .words .now) (w .0) h
 
+  other-enabled : (w : Processor) → isIndex (x .args .setup .processors) (w .0) ≡ true → (t : ℕ) (elsewhere : Bool) → enabledAnywhere old t ≡ elsewhere
+      → Elsewhere (x .args .setup .shape) (vpOf (getD rows (w .0) [])) t elsewhere old
+  other-enabled w h = others (x .args .setup) (x .args .levels .now) (x .args .masks .now) rows (x .args .words .now) (w .0) h
+
   its-runs : Runs (x .args .setup .shape) (vpOf (getD rows v [])) old v
   its-runs = other-runs (x .args .operation .vp) (x .pre .1)
 
@@ -114,7 +118,10 @@ returns-2 : tie.Need-returns-2
 returns-2 c = on-partition (c .before .before .before .before .before) _ (c .before .before .before .action .given .1) _ _ (c .enpart .ensures _ _ _ _ (its-acts (c .before .before .before .before .before) _ (c .before .before .before .action .given .1)))
 
 returns-3 : tie.Need-returns-3
-returns-3 c = on-other (c .before .before .before .before .before .before .before .before) _ (c .before .before .before .before .before .before .action2 .given .1) _ (on-there (c .before .before .before)) _ (c .envp .ensures _ _ _ _ _ (its-acts (c .before .before .before .before .before .before .before .before) _ (c .before .before .before .before .before .before .action2 .given .1)) (other-runs (c .before .before .before .before .before .before .before .before) _ (c .before .before .before .before .before .before .action2 .given .1) _ (on-there (c .before .before .before))))
+returns-3 c =
+    let told = c .before .before .before .before .before .before .before .before .action2 .given .1 in
+    let to = on-there (c .before .before .before .before .before) in
+    on-other (c .before .before .before .before .before .before .before .before .before .before) _ told _ to _ (c .envp .ensures _ _ _ _ _ (its-acts (c .before .before .before .before .before .before .before .before .before .before) _ told) (other-runs (c .before .before .before .before .before .before .before .before .before .before) _ told _ to) (other-enabled (c .before .before .before .before .before .before .before .before .before .before) _ told _ to _ _ (c .before .before .before .enabled-anywhere .ensures _ _ _)))
 
 returns-4 : tie.Need-returns-4
 returns-4 c = on-record (c .before .before .before .before .before) _ (c .before .before .before .action3 .given .1) _ (c .call .ensures _ _ (its-runs (c .before .before .before .before .before) _ (c .before .before .before .action3 .given .1)))
@@ -170,7 +177,7 @@ acted-spec =
     (tie.spec
     (λ c κs. search needs) (λ c. record { fits = omega (arith, v-low c) }) (λ c. v-low c) (λ c κs. search needs)
     (λ c. search needs) (λ c κs. search needs) (λ c. search needs) (λ c κs. search needs) returns
-    (λ c. record { fits = omega (arith, w-low (c .before)) }) (λ c. w-low (c .before)) (λ c κs. search needs)
+    (λ c κs. search needs) (λ c. record { fits = omega (arith, w-low (c .before .before .before)) }) (λ c. w-low (c .before .before .before)) (λ c κs. search needs)
     (λ c. search needs) (λ c. record { fits = omega (arith, v-low (c .before .before .before .before .before)) })
     (λ c. v-low (c .before .before .before .before .before)) (λ c κs. search needs) (λ c. search needs)
     (λ c. record { fits = omega (arith, v-low (c .before .before .before .before .before)) })

@@ -30,4 +30,4 @@ refusal-reason-spec =
     (λ c. rw (c .enum-told34 .given .1)) (λ c. rw (c .enum-told35 .given .1)) (λ c. rw (c .enum-told36 .given .1))
     (λ c. rw (c .enum-told37 .given .1)) (λ c. rw (c .enum-told38 .given .1)) (λ c. rw (c .enum-told39 .given .1))
     (λ c. rw (c .enum-told40 .given .1)) (λ c. rw (c .enum-told41 .given .1)) (λ c. rw (c .enum-told42 .given .1))
-    (λ c. rw (c .enum-told43 .given .1)) (λ c. rw (c .enum-told44 .given .1)))
+    (λ c. rw (c .enum-told43 .given .1)) (λ c. rw (c .enum-told44 .given .1)) (λ c. rw (c .enum-told45 .given .1)))
