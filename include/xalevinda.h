@@ -119,7 +119,8 @@ enum xalevinda_register {
     XALEVINDA_PARTITION_CONFIG = 3,    /* EnableVtlProtection, DefaultVtlProtectionMask, ZeroMemoryOnReset, DenyLowerVtlStartup,
                                           InterceptVpStartup */
     XALEVINDA_SECURE_CONFIG = 4,       /* MbecEnabled, TlbLocked */
-    XALEVINDA_CODE_PAGE_OFFSETS = 5    /* VtlCallOffset, VtlReturnOffset */
+    XALEVINDA_CODE_PAGE_OFFSETS = 5,   /* VtlCallOffset, VtlReturnOffset */
+    XALEVINDA_CR_INTERCEPT_CONTROL = 6 /* 25 fields of one bit each, from Cr0Write to MsrSgxLaunchControlWrite: field n is bit n */
 };
 
 /* Writes the listing of a script at the start of `out`: all of it, or nothing where `out_length` is too short. Returns how many bytes

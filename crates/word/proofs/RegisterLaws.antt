@@ -1,4 +1,4 @@
--- The laws of the six registers of document 001: each is a whole word, and its two round trips hold. Each is a use of the laws
+-- The laws of the registers of document 001: each is a whole word, and its two round trips hold. Each is a use of the laws
 -- of layouts. Assumes nothing.
 use Prim.Native.Nat.{ℕ, _^_, _<_}
 use mathlib.Core.Path.{_≡_, refl, ap, _∙_}
@@ -6,7 +6,7 @@ use mathlib.Core.Bool.{true}
 use mathlib.Core.Logic.{_↔_}
 use Rattle.word.specs.Layout.{widthOf, lowBits, unpack, reservedClear}
 use Rattle.word.specs.RegisterLayouts.{Register, packAs, unpackAs}
-use Rattle.word.specs.RegisterLayouts.{capabilities, partitionStatus, vpStatus, partitionConfig, secureConfig, codePageOffsets}
+use Rattle.word.specs.RegisterLayouts.{capabilities, partitionStatus, vpStatus, partitionConfig, secureConfig, codePageOffsets, interceptControl}
 use Rattle.word.proofs.LayoutLaws.{unpack-pack, pack-unpack, pack-lt, pack-clear}
 
 -- What holds of a register.
@@ -56,6 +56,9 @@ secure-config-whole = whole secureConfig refl (λ w. refl) (λ s. refl)
 
 pub code-page-offsets-whole : Whole codePageOffsets
 code-page-offsets-whole = whole codePageOffsets refl (λ w. refl) (λ s. refl)
+
+pub intercept-control-whole : Whole interceptControl
+intercept-control-whole = whole interceptControl refl (λ w. refl) (λ s. refl)
 
 -- Levels 0 and 1 enabled of at most 1, and MBEC at level 1, as a word.
 pub partition-status-word :

@@ -1,4 +1,4 @@
--- The definitions of `word`: one field of a word, a layout of fields, the six registers of document 001, and where their fields stand.
+-- The definitions of `word`: one field of a word, a layout of fields, the registers of document 001, and where their fields stand.
 -- Assumes nothing.
 pub mod Field
 pub mod Layout

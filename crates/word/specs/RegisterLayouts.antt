@@ -1,6 +1,6 @@
--- The six register words of document 001, in its order: the layout of each, and its structure packed into a word and
+-- The register words of document 001, in its order: the layout of each, and its structure packed into a word and
 -- unpacked from one. Each stands under the name and the fields of its C type. Assumes nothing.
-use Prim.Native.Nat.{ℕ}
+use Prim.Native.Nat.{ℕ, zero, suc}
 use mathlib.Core.List.{List, [], _∷_}
 use lib.ListN.{getD}
 use Rattle.word.specs.Layout.{Layout, used, reserved, pack, unpack}
@@ -10,6 +10,7 @@ use Rattle.word.specs.declared.registers.VpStatus.{VpStatus}
 use Rattle.word.specs.declared.registers.PartitionConfig.{PartitionConfig}
 use Rattle.word.specs.declared.registers.SecureConfig.{SecureConfig}
 use Rattle.word.specs.declared.registers.CodePageOffsets.{CodePageOffsets}
+use Rattle.word.specs.declared.intercept_control.InterceptControl.{InterceptControl}
 
 -- A register: its layout, and its structure as the list of the values of the used fields, both ways.
 pub record Register (Structure : Type 0) : Type 0 where
@@ -89,11 +90,20 @@ codePageOffsets =
       structure = λ xs. record { «vtl_call_offset» = getD xs 0 0; «vtl_return_offset» = getD xs 1 0 };
     }
 
+-- HV_REGISTER_CR_INTERCEPT_CONTROL: 25 fields of one bit each, Cr0Write : 1 to MsrSgxLaunchControlWrite : 1; RsvdZ : 39. Their names stand
+-- at their positions in src/intercept_control.rt.
+abbrev pub bitFields : ℕ → Layout → Layout
+bitFields zero layout = layout
+bitFields (suc n) layout = used 1 ∷ bitFields n layout
+
+abbrev pub interceptControl : Register InterceptControl
+interceptControl = record { layout = bitFields 25 (reserved 39 ∷ []); values = λ s. s .values; structure = λ xs. record { values = xs } }
+
 -- The layouts of all registers, in the order of 001.
 abbrev pub layouts : List Layout
 layouts =
     capabilities .layout ∷ partitionStatus .layout ∷ vpStatus .layout
-    ∷ partitionConfig .layout ∷ secureConfig .layout ∷ codePageOffsets .layout ∷ []
+    ∷ partitionConfig .layout ∷ secureConfig .layout ∷ codePageOffsets .layout ∷ interceptControl .layout ∷ []
 
 -- The layout of a register by its number, from 0. Any other register has no fields.
 abbrev pub layoutOf : ℕ → Layout

@@ -1,5 +1,5 @@
-// The six registers of document 001: the structure of each, packed into a word and unpacked from one; and below them one table of all
-// their used fields, by which a field is read and replaced by its number. Of a value that is packed only the low bits count, as many
+// Six registers of document 001 (the seventh stands in intercept_control.rt): the structure of each, packed into a word and unpacked
+// from one; and below them one table of the used fields of all seven, by which a field is read and replaced by its number. Of a value that is packed only the low bits count, as many
 // as its field has. Reserved bits are packed as 0 and passed over. Each offset and width stands here once, as a constant that `pack`,
 // `unpack` and the table take.
 ghost use mathlib.Core.Path.{_≡_};
@@ -8,6 +8,7 @@ ghost use Rattle.word.specs.RegisterLayouts.{packAs, unpackAs};
 ghost use Rattle.word.specs.RegisterLayouts.{capabilities, partitionStatus, vpStatus};
 ghost use Rattle.word.specs.RegisterLayouts.{partitionConfig, secureConfig, codePageOffsets};
 use crate::field::FieldPosition;
+use crate::intercept_control::InterceptControl;
 
 // What the hypervisor offers: HV_X64_REGISTER_VSM_CAPABILITIES.
 pub struct Capabilities {
@@ -209,9 +210,9 @@ impl CodePageOffsets {
 
 // The table: a row for each used field. One computed comparison with the layouts of specs/RegisterLayouts.antt, in the proof of
 // `position_of`, tests all rows, and `row-at` of proofs/RegisterFieldLaws.antt carries it to each.
-// A new register (001's intercept control word of 25 bits, its VINA word) is its layout in specs/RegisterLayouts.antt, its struct
+// A new register (001's VINA word) is its layout in specs/RegisterLayouts.antt, its struct
 // above, and its rows here with the row after them. No law and no proof of the functions below changes.
-const POSITIONS: [FieldPosition; 18] = [
+const POSITIONS: [FieldPosition; 43] = [
     Capabilities::DENY_LOWER_VTL_STARTUP,
     Capabilities::MBEC_VTL_MASK,
     Capabilities::DR6_SHARED,
@@ -230,12 +231,37 @@ const POSITIONS: [FieldPosition; 18] = [
     SecureConfig::TLB_LOCKED,
     CodePageOffsets::VTL_CALL_OFFSET,
     CodePageOffsets::VTL_RETURN_OFFSET,
+    InterceptControl::CR0_WRITE,
+    InterceptControl::CR4_WRITE,
+    InterceptControl::XCR0_WRITE,
+    InterceptControl::IA32_MISC_ENABLE_READ,
+    InterceptControl::IA32_MISC_ENABLE_WRITE,
+    InterceptControl::MSR_LSTAR_READ,
+    InterceptControl::MSR_LSTAR_WRITE,
+    InterceptControl::MSR_STAR_READ,
+    InterceptControl::MSR_STAR_WRITE,
+    InterceptControl::MSR_CSTAR_READ,
+    InterceptControl::MSR_CSTAR_WRITE,
+    InterceptControl::APIC_BASE_MSR_READ,
+    InterceptControl::APIC_BASE_MSR_WRITE,
+    InterceptControl::MSR_EFER_READ,
+    InterceptControl::MSR_EFER_WRITE,
+    InterceptControl::GDTR_WRITE,
+    InterceptControl::IDTR_WRITE,
+    InterceptControl::LDTR_WRITE,
+    InterceptControl::TR_WRITE,
+    InterceptControl::MSR_SYSENTER_CS_WRITE,
+    InterceptControl::MSR_SYSENTER_EIP_WRITE,
+    InterceptControl::MSR_SYSENTER_ESP_WRITE,
+    InterceptControl::MSR_SFMASK_WRITE,
+    InterceptControl::MSR_TSC_AUX_WRITE,
+    InterceptControl::MSR_SGX_LAUNCH_CONTROL_WRITE,
 ];
 
 // The row at which each register begins, and the row after the last.
-const FIRST_ROWS: [u64; 7] = [0, 3, 6, 9, 14, 16, 18];
+const FIRST_ROWS: [u64; 8] = [0, 3, 6, 9, 14, 16, 18, 43];
 
-const REGISTERS: u64 = 6;
+const REGISTERS: u64 = 7;
 
 // A field that is not there has no bits.
 const NOWHERE: FieldPosition = FieldPosition(0, 0);
