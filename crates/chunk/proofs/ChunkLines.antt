@@ -112,7 +112,7 @@ module _ {line₀ : List ℕ} {length₀ : ℕ} {more line : List ℕ} {at i : �
       sym (append-assoc (held line₀ length₀) (take i more) (drop i more) ∙ rw (take-append-drop i more)) in
       held-now ∙ w .bytes ∙ sym (ap (take 257) parts ∙ take-at (held line₀ length₀ ++ take i more) (drop i more) 257 size)
 
--- The bytes that are held, as the first so many of the buffer.
+-- The bytes that are held, as the beginning of the buffer.
 taken-again : (k : ℕ) (bytes : List ℕ) → take (length (take k bytes)) bytes ≡ take k bytes
 taken-again zero bytes = refl
 taken-again (suc k) [] = refl

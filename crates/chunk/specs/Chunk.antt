@@ -17,6 +17,6 @@ lineEnd chunk start = byteAt lineFeed chunk start
 abbrev pub keptBytes : ℕ
 keptBytes = 257
 
--- The bytes of the line that has not ended: so many of the buffer.
+-- The bytes of the line that has not ended: the beginning of the buffer.
 abbrev pub held : List ℕ → ℕ → List ℕ
 held buffer length = take (min length keptBytes) buffer

@@ -16,7 +16,7 @@ rangedBy setup asked.Nothing = asked.Nothing
 rangedBy setup (asked.Access v mode p access) =
     cond (ltb (v .0) (setup .processors) && leb mode 1 && ltb (p .0) (setup .pages)) (asked.Access v mode p access) asked.Nothing
 
--- A text was written at the start of a buffer, and so many bytes of it are the text.
+-- A text was written at the start of a buffer, and its length was returned.
 pub record Wrote (text : List ℕ) (size : ℕ) (before after : List ℕ) : Type 0 where
   pub counted : size ≡ length text
   pub written : after ≡ sets before 0 text

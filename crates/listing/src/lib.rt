@@ -116,7 +116,7 @@ pub fn show(answer: Answer, active: Level) -> Shown
     }
 }
 
-// The level that is active on a processor, of so many, where the machine has `active` at its place. There are at most four.
+// The level that is active on a processor, if there is such a processor: `active` is what the machine holds in its place. There are at most four.
 pub fn level_on(vp: Processor, processors: u64, active: Level) -> Level
     ensures { λ r. ⌜ r ≡ levelOn vp processors active ⌝ }
 {

@@ -23,7 +23,7 @@ pub record Runs (z : Shape) (p : VirtualProcessor) (s : State) (v : ℕ) : Type 
   pub there : isProcessor s v ≡ true
   pub holds : vp s v ≡ p
 
--- The state s has the shape z and so many pages, its partition holds x, and level l is active on processor v.
+-- The state s has the shape z and this number of pages, its partition holds x, and level l is active on processor v.
 pub record Acts (z : Shape) (P : ℕ) (x : Partition) (l : ℕ) (s : State) (v : ℕ) : Type 0 where
   pub shaped : shape s ≡ z
   pub paged : pages s ≡ P

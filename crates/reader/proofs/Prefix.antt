@@ -37,7 +37,7 @@ pub used-short : UsedShort
 used-short input r e used a =
     omega (arith, used a, read-short input (record { state = stateIn r; rest = lines (drop (r .used) input) }) (sym e ∙ rw a))
 
--- Lines that the bytes have, each with its line feed, stand at their beginning, if there are so many bytes.
+-- The bytes begin with `front`.
 pub record Begins (bytes front : List ℕ) : Type 0 where
   pub tail : List ℕ
   pub same : bytes ≡ front ++ tail

@@ -26,7 +26,7 @@ use Rattle.records.proofs.Limits.{limits}
 use Rattle.records.proofs.Sequence.{Small, Run, counts, count-bounds, places-run}
 use Rattle.records.proofs.PlainStates.{small}
 
--- Each number gives at most so many places, and exactly one.
+-- How long a rising list is if each number gives at most `most` places, and if each gives exactly one.
 length-rising : (f : ℕ → List Place) (most start count end : ℕ) → start + count ≡ end → ((i : ℕ) → start ≤ i → i < end → length (f i) ≤ most)
     → length (rising start count f) ≤ count * most
 unfolding rising

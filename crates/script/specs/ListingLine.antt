@@ -12,7 +12,7 @@ lineFeed = 10
 unfoldable pub cell : ℕ → ℕ → List ℕ
 cell n closing = decimal n ++ closing ∷ []
 
--- A line of the listing has at most so many bytes: four numbers of 20 digits, each with a byte that closes it.
+-- The greatest length of a line of the listing: four numbers of 20 digits, each followed by a tab or a line feed.
 abbrev pub longestRecord : ℕ
 longestRecord = 84
 

@@ -27,7 +27,7 @@ afterTab (byte ∷ line) = fields line
 abbrev pub fieldsAfter : List ℕ → ℕ → List (List ℕ)
 fieldsAfter line end = afterTab (drop end line)
 
--- Why fields that are not so many numbers are refused.
+-- Why fields are refused that are not the numbers an event takes: another count, or one that is not a number.
 abbrev pub refusalIn : ℕ → List (List ℕ) → Refusal
 refusalIn takes more = cond (eqb (length more) takes) NotANumber WrongFieldCount
 

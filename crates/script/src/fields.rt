@@ -40,7 +40,8 @@ pub(crate) fn count_after(line: &[u8], from: usize) -> usize
     count
 }
 
-// Why the fields after the one that ends at `from` are not so many numbers. It is asked only then, and the fields are counted anew.
+// Why the fields after the one that ends at `from` are refused: there are not `takes` of them, or one is not a number.
+// Only a refused line pays for it.
 pub(crate) fn refusal(line: &[u8], from: usize, takes: usize) -> Refusal
     ensures { λ r. ⌜ r ≡ refusalIn takes (fieldsAfter (now (line .entry)) from) ⌝ }
 {
@@ -50,7 +51,7 @@ pub(crate) fn refusal(line: &[u8], from: usize, takes: usize) -> Refusal
     Refusal::WrongFieldCount
 }
 
-// Reads the numbers of the fields after the one that ends at `from` into `values`, and says whether they are just so many.
+// Reads the numbers of the fields after the one that ends at `from` into `values`, and says whether there are exactly `takes` of them.
 pub(crate) fn numbers(line: &[u8], from: usize, takes: usize, values: &mut [u64; 7]) -> bool
     requires { ⌜ from ≤ length (now line) ⌝ }
     requires { ⌜ takes ≤ 7 ⌝ }

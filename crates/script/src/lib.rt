@@ -29,7 +29,7 @@ pub enum Start {
     Malformed(Refusal),
 }
 
-// A line has at most so many bytes without its line feed.
+// The greatest length of a line without its line feed.
 pub const LONGEST_LINE: usize = 256;
 
 // What a line after the first says.

@@ -121,7 +121,7 @@ fed-whole p chunk out r out′ v =
       ),
     )
 
--- Before a feeding so many bytes were used and this text was written.
+-- A feeding, and what an earlier one used and wrote before it.
 abbrev pub after : ℕ → List ℕ → Feeding → Feeding
 after used text f = record { progress = f .progress; used = used + f .used; text = text ++ f .text }
 

@@ -34,7 +34,7 @@ progressIn phase.First number s line = first line
 progressIn phase.Later number s line = later number s line
 progressIn phase.Stopped number s line = stopped
 
--- The words of the pages: so many of the array, which has 64.
+-- The words of the pages: the first `lent` of the array, which has 64.
 abbrev pub lentOf : List ℕ → ℕ → List ℕ
 lentOf words lent = take (min lent 64) words
 
@@ -58,7 +58,7 @@ extended (first line) more = first (line ++ more)
 extended (later number s line) more = later number s (line ++ more)
 extended stopped more = stopped
 
--- Of a line that goes on in the next chunk so many bytes are kept at most: they are too many, whatever follows.
+-- Of a line that goes on in the next chunk at most `keptBytes` are kept: a line of that length is too long already, whatever follows.
 abbrev pub kept : Progress → Progress
 kept (first line) = first (take keptBytes line)
 kept (later number s line) = later number s (take keptBytes line)
@@ -83,7 +83,7 @@ ended (first line) = begun (stateBy (lineFirst line))
 ended (later number s line) = continued number (answered s (lineEvent line))
 ended stopped = record { progress = stopped; text = [] }
 
--- The longest record has so many bytes; a session that has stopped writes none.
+-- The room that the next record may need; a session that has stopped writes none.
 abbrev pub roomFor : Progress → ℕ
 roomFor (first line) = longestRecord
 roomFor (later number s line) = longestRecord

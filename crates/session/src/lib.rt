@@ -20,7 +20,7 @@ mod listing_record; // the record of a line
 pub use lines::after_line;
 pub use lines::keep;
 
-// The longest record of the listing has so many bytes: four numbers of 20 digits, each with a byte that closes it.
+// The length of the longest record of a listing: four numbers of 20 digits, each followed by a tab or a line feed.
 pub const LONGEST_RECORD: usize = 84;
 
 // How far a session has come.
@@ -36,7 +36,7 @@ pub struct Session {
     pub phase: Phase,
     // The number of the line that comes next.
     pub number: u64,
-    // The beginning of a line that goes on in the next chunk: so many bytes of the buffer.
+    // The beginning of a line that goes on in the next chunk: the first `length` bytes of the buffer.
     pub length: usize,
     pub line: [u8; chunk::KEPT_BYTES],
     // The machine in its parts: what stays the same, the words of the levels, the masks, and the records of four processors.
@@ -47,7 +47,7 @@ pub struct Session {
     pub second: Record,
     pub third: Record,
     pub fourth: Record,
-    // The words of its pages: so many of the array.
+    // The words of its pages: the first `lent` of the array.
     pub lent: usize,
     pub words: [u64; 64],
 }

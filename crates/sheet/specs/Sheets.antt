@@ -41,6 +41,6 @@ sheetLine e = together (sheetFields e)
 unfoldable pub sheetText : Explanation → List ℕ
 sheetText e = ended (sheetLine e ∷ [])
 
--- With its line feed it has at most so many bytes: a receiver of 20 digits, three groups of 50 bytes with their tabs, and the line feed.
+-- Its greatest length: a receiver of 20 digits, three groups of 50 bytes with their tabs, and the line feed.
 abbrev pub longestSheet : ℕ
 longestSheet = 171

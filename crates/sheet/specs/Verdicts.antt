@@ -31,6 +31,6 @@ verdictLines e sheet = cond (goodForm sheet) (mark (sameFields (fields sheet) (s
 unfoldable pub verdict : Explanation → List ℕ → List ℕ
 verdict e sheet = ended (verdictLines e sheet)
 
--- It has at most so many bytes: four of the first line, and a sheet with a line feed after each field.
+-- Its greatest length: four bytes of the first line, and a sheet with a line feed after each field.
 abbrev pub longestVerdict : ℕ
 longestVerdict = 261

@@ -19,13 +19,13 @@ mod shown_fields; // the fields of a sheet, one a line
 
 pub use sheet_text::put;
 
-// A buffer of so many bytes has room for the line of every explanation, with its line feed.
+// The room that the line of any explanation needs, with its line feed.
 pub const LONGEST_SHEET: usize = 171;
 
-// The first line of a verdict has so many bytes, with its line feed.
+// The length of a verdict's first line, with its line feed.
 const MARK_LENGTH: usize = 4;
 
-// A buffer of so many bytes has room for the verdict on every sheet.
+// The room that the verdict on any sheet needs.
 pub const LONGEST_VERDICT: usize = MARK_LENGTH + script::LONGEST_LINE + 1;
 
 // Writes the line of an explanation with its line feed at the start of `out`, and returns how many bytes it takes. Where it has no room,

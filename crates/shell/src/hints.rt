@@ -46,7 +46,7 @@ fn begins(line: &[u8]) -> bool {
     (line[0] == b'v') & (line[1] == b's') & (line[2] == b'm') & (line[3] == b'\t')
 }
 
-// What is wrong with a first line that was refused, or with one that should have so many tabs at least.
+// What is wrong with a first line that was refused. It should have at least `fewest` tabs.
 fn fault_of(line: &[u8], fewest: usize) -> Fault {
     if 0 < occurs(line, b' ') {
         return Fault::Spaces;

@@ -80,7 +80,7 @@ pub fn close_named(descriptor: i32) {
     }
 }
 
-// So many bytes at the start of a buffer were read: none at the end of the input. Or the read failed.
+// What a read gives: the number of bytes now at the start of the buffer, 0 at the end of the input; or the read failed.
 pub enum Input {
     Bytes(usize),
     Failed,
@@ -129,7 +129,7 @@ fn write_name(name: &[u8]) -> bool {
     write(name) && write(b"\n")
 }
 
-// The session after so many bytes of a chunk.
+// A session, and how many bytes of a chunk it has used.
 pub struct Turned {
     pub session: Session,
     pub used: usize,
@@ -150,7 +150,7 @@ fn write_last(before: Session, last: &[u8]) -> bool
     write(last)
 }
 
-// Feeds a chunk and writes the records that come of it, so many at a time as have room. Where a write fails, the piece whose records
+// Feeds a chunk and writes its records, as many at a time as have room. If a write fails, the piece whose records
 // were not written does not count as used, nor does what follows it; else all of the chunk is used. That nothing else ends the loop
 // is in the code only, since nothing is known of what a write answers.
 pub fn turn(start: Session, chunk: &[u8], out: &mut [u8; BUFFER]) -> Turned

@@ -1,4 +1,4 @@
--- No two lots of parts make one state (01, "The bench model"), where the arrays have the lengths that code lends: each part can be
+-- Different parts make different states (01, "The bench model"), where the arrays have the lengths that code lends: each part can be
 -- read back. So an equation between states fixes every bit of every word that is lent. Assumes nothing.
 use mathlib.Core.Path.{_≡_, sym, ap, _∙_}
 use mathlib.Core.List.{List, []}

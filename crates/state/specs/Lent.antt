@@ -22,7 +22,7 @@ machineOf setup levels masks vps = record {
   vps = vpOf (getD vps 0 []) ∷ vpOf (getD vps 1 []) ∷ vpOf (getD vps 2 []) ∷ vpOf (getD vps 3 []) ∷ [];
 }
 
--- The state of its parts. No two lots of parts make one state (`lent-one` of proofs/OneState.antt).
+-- The state that the parts make up. Different parts make different states (`lent-one` of proofs/OneState.antt).
 abbrev pub lent : Setup → List ℕ → List ℕ → List (List ℕ) → List ℕ → State
 lent setup levels masks vps words = record { machine = machineOf setup levels masks vps; words = words }
 

@@ -50,7 +50,7 @@ struct Operation {
     action: Action,
 }
 
-// Is it one of so many processors?
+// Is it the index of one of the machine's processors?
 fn is_processor(processors: u64, vp: Processor) -> bool
     ensures { λ r. ⌜ r ≡ isIndex processors (vp .0) ⌝ }
 {

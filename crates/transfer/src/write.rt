@@ -21,7 +21,7 @@ use records::place::Next;
 use records::walk;
 use state::well_formed_state::well_formed;
 
-// A buffer of so many bytes has room for the records of every well-formed machine.
+// The room that the records of any well-formed machine need.
 pub const LONGEST_TEXT: usize = 65536;
 
 // Writes all records after the first from `start` on, and returns the place after them.

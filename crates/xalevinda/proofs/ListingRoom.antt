@@ -99,7 +99,7 @@ saved-at-most (first line) = omega (arith, line-at-most 0 1 0 0)
 saved-at-most (later number s line) = sent-at-most s
 saved-at-most stopped = omega (arith, line-at-most 0 1 0 0)
 
--- Of a script, so many line feeds were counted up to a place.
+-- The line feeds of a script that were counted up to a place.
 abbrev pub Counted : List ℕ → ℕ → ℕ → Type 0
 Counted script i count = (count + length (linesIn (drop i script) .complete) ≡ length (linesIn script .complete)) × ((i ≤ length script) × (count ≤ i))
 
