@@ -130,7 +130,8 @@ pub fn feed_line(start: Session, chunk: &[u8], out: &mut [u8; LONGEST_REASONED])
     ensures wrote { λ r. ⌜ r .wrote
         ≡ length (told (progressOf start) (take (lineUsed (now (chunk .entry))) (now (chunk .entry)))) ⌝ }
     ensures out { λ _. ⌜ now (out .exit)
-        ≡ sets (now (out .entry)) 0 (told (progressOf start) (take (lineUsed (now (chunk .entry))) (now (chunk .entry)))) ⌝ }
+        ≡ sets (now (out .entry)) 0
+        (told (progressOf start) (take (lineUsed (now (chunk .entry))) (now (chunk .entry)))) ⌝ }
     ensures bounds { λ r. ⌜ Bounds (r .used) (r .wrote) (now (chunk .entry)) (now (out .exit)) ⌝ }
 {
     let end = chunk::line_end(chunk, 0);
