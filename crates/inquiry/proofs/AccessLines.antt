@@ -1,20 +1,18 @@
 -- An access line gets answer 1 exactly where there is no such processor, mode or page. Assumes nothing.
 use mathlib.Core.Bool.{Bool, true, false, cond, _&&_, false≢true}
 use mathlib.Core.List.{List}
-use mathlib.Core.Logic.{_↔_}
-use mathlib.Core.Path.{_≡_, refl, sym, ap, _∙_}
+use mathlib.Core.Path.{_≡_, refl}
 use Prim.Native.Nat.{ℕ, _≤_, _<_}
-use borrow.Author.Tests.{leb-true, leb-false, ltb-true, ltb-false, lt-leb, le-leb, le-ltb, lt-ltb, ne-eqb}
+use borrow.Author.Tests.{leb-true, leb-false, ltb-true, ltb-false, le-leb, lt-ltb, ne-eqb}
 use native.Mathlib.Omega.{arith}
 use lib.Dec.{eqb, leb, ltb}
 use Rattle.access_events.specs.Access.{accessed}
 use Rattle.explanation.proofs.Explains.{answer-is-explained}
-use Rattle.explanation.specs.Explained.{explanationOf}
 use Rattle.explanation.specs.ExplainedClaims.{Explains}
 use Rattle.listing.specs.Listing.{answered}
-use Rattle.model.specs.Answers.{firstOf, numberOf, refusalNumber}
+use Rattle.model.specs.Answers.{firstOf, numberOf}
 use Rattle.model.specs.State.{State, pages, processors}
-use Rattle.model.specs.Step.{modeOf, rule, ruleOf, ruled, step}
+use Rattle.model.specs.Step.{rule, ruleOf, ruled, step}
 use Rattle.model.specs.WellFormed.{wellFormed}
 use Rattle.model.specs.declared.answer.Answer.{Answer}
 use Rattle.model.specs.declared.answer.Answer.the-variants.{Refused}
@@ -33,7 +31,7 @@ use Rattle.script.specs.declared.Parsed.the-variants as parsed
 use Rattle.sheet.specs.Sheets.{Explanation, Allowed, Host, Levels}
 use Rattle.sheet.specs.Verdicts.{refusal}
 use Rattle.inquiry.specs.AskedLines.{rangedBy}
-use Rattle.asked.specs.AskedAccess.{askedBy, askedOf}
+use Rattle.asked.specs.AskedAccess.{askedBy}
 use Rattle.inquiry.specs.Inquiry.{ofAsked, ofLine}
 use Rattle.asked.specs.declared.Asked.the-variants as asked
 

@@ -1,13 +1,13 @@
 -- What is written of an input, line by line. Assumes nothing.
-use mathlib.Core.Bool.{Bool, true, false, cond}
-use mathlib.Core.List.{List, [], _∷_, _++_}
-use mathlib.Core.Option.{Option, none, some}
+use mathlib.Core.Bool.{true, false}
+use mathlib.Core.List.{List, []}
+use mathlib.Core.Option.{none, some}
 use mathlib.Core.Path.{_≡_, refl, sym, ap, _∙_}
 use Prim.Native.Nat.{ℕ, min, _+_, _-_, _≤_, _<_}
 use native.Mathlib.Omega.{arith}
 use lib.ListN.{drop, drop-of-length-le, length, take}
 use Rattle.chunk.specs.Chunk.{lineEnd}
-use Rattle.model.specs.State.{State, pages, processors}
+use Rattle.model.specs.State.{pages, processors}
 use Rattle.reader.proofs.Cut.{lines-next}
 use Rattle.reader.specs.Received.{passedIn, stateIn}
 use Rattle.reader.specs.declared.Received.{Received}

@@ -1,10 +1,10 @@
 -- An input of more than 66,049 bytes is refused: its records are short, so a line behind them is too long, or there are too many.
 -- Assumes nothing.
-use mathlib.Core.Bool.{Bool, true, false, cond, _&&_}
+use mathlib.Core.Bool.{Bool, true, false}
 use mathlib.Core.List.{List, [], _∷_, _++_}
 use mathlib.Core.Option.{Option, none, some}
-use mathlib.Core.Path.{_≡_, refl, sym, ap, _∙_}
-use Prim.Native.Nat.{ℕ, suc, _+_, _≤_, _<_}
+use mathlib.Core.Path.{_≡_, refl, ap}
+use Prim.Native.Nat.{ℕ, _+_, _≤_, _<_}
 use borrow.Author.Tests.{lt-leb, lt-ltb, ltb-false, ltb-true}
 use native.Mathlib.Omega.{arith}
 use lib.Dec.{eqb, ltb}
@@ -13,7 +13,6 @@ use Rattle.chunk.proofs.ChunkLines.{joined, lines-joined}
 use Rattle.listing.specs.Listing.{answered}
 use Rattle.model.specs.Answers.{numberOf}
 use Rattle.model.specs.State.{State}
-use Rattle.model.specs.declared.answer.Refusal.the-variants.{LineTooLong}
 use Rattle.reader.proofs.Cut.{ended-append}
 use Rattle.reader.proofs.Prefix.{read-short}
 use Rattle.records.proofs.SameBytes.{only-records}

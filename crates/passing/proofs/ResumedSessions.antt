@@ -1,19 +1,17 @@
 -- A session that begins with records: what it is given, and what it writes. Assumes nothing.
-use mathlib.Core.Bool.{Bool, true, false, cond}
-use mathlib.Core.List.{List, [], _∷_, _++_, append-assoc, append-nil}
+use mathlib.Core.Bool.{Bool, true, false}
+use mathlib.Core.List.{List, [], _∷_, _++_, append-nil}
 use mathlib.Core.Option.{Option, none, some}
 use mathlib.Core.Path.{_≡_, refl, sym, ap, _∙_}
 use Prim.Native.Nat.{ℕ, min, _+_, _≤_, _<_}
 use borrow.Author.Tests.{leb-true, leb-false}
-use native.Mathlib.Nat.{zero-add}
 use native.Mathlib.Omega.{arith}
 use lib.Dec.{leb}
-use lib.ListN.{drop, length, length-append, take}
+use lib.ListN.{drop, length, length-append}
 use lib.Seq.{drop-at, drop-length}
 use Rattle.chunk.proofs.ChunkLines.{joined, lines-joined}
 use Rattle.listing.specs.Listing.{firstDone, firstRefused, laterRecords}
 use Rattle.model.specs.State.{State}
-use Rattle.model.specs.WellFormed.{wellFormed}
 use Rattle.reader.proofs.Cut.{ended-append}
 use Rattle.reader.proofs.Prefix.{Begins, accepts, begins, read-prefix, read-short}
 use Rattle.reader.specs.Received.{Used, passedIn, stateIn}

@@ -16,7 +16,6 @@ use Rattle.model.proofs.Keeps.{step-keeps}
 use Rattle.model.specs.Fresh.{admissible, fresh}
 use Rattle.model.specs.State.{State}
 use Rattle.model.specs.WellFormed.{wellFormed}
-use Rattle.model.specs.declared.machine.FirstLine.{FirstLine}
 use Rattle.listing.specs.Listing.{answered, firstRefused, numberAfter, stateBy}
 use Rattle.records.proofs.Lengths.{short-text}
 use Rattle.records.specs.RecordTexts.{longestText, recordsText}
@@ -33,7 +32,7 @@ use Rattle.script.specs.declared.Start.{Start}
 use Rattle.script.specs.declared.Start.the-variants as start
 use Rattle.session.proofs.Ending.{ended-kept}
 use Rattle.session.proofs.WholeListing.{last-bytes, last-kept}
-use Rattle.session.specs.Session.{Bounds, Ended, Progress, begun, consumed, consumedLines, ended, first, lastEnded, later, stopped}
+use Rattle.session.specs.Session.{Bounds, Ended, begun, consumed, consumedLines, ended, first, lastEnded, later, stopped}
 use Rattle.transfer.specs.Sent.{sentText}
 use Rattle.passing.specs.Passing.{laterState, saved, savedFrom, savedOf}
 use Rattle.passing.specs.PassingSessions.{SavedSession, savedText}

@@ -14,7 +14,7 @@ use Rattle.model.specs.declared.machine.Control.{Control}
 use Rattle.model.specs.declared.machine.Shape.{Shape}
 use Rattle.model.specs.declared.machine.VirtualProcessor.{VirtualProcessor}
 use Rattle.model.specs.Arrays.{numberAt, stored}
-use Rattle.model.specs.State.{level, levelSet, isLevel, context, noControl, lockBit}
+use Rattle.model.specs.State.{level, levelSet, isLevel, context, lockBit}
 use Rattle.model.specs.Updates.{withControl, putContext, setSecure}
 
 -- The words of a record.
@@ -141,8 +141,8 @@ controlSet z p l k = putContext z p l (withControl (context z p l) k)
 
 -- The row of a level that starts, with the configuration words that it holds of four levels.
 abbrev pub startedRow : ℕ → ℕ → ℕ → ℕ → ℕ → ℕ → ℕ → List ℕ
-startedRow ip sp cr zero one two three =
-    ip ∷ sp ∷ 0 ∷ cr ∷ replicate 14 0 ++ zero ∷ one ∷ two ∷ three ∷ replicate 4 0
+startedRow ip sp cr first second third fourth =
+    ip ∷ sp ∷ 0 ∷ cr ∷ replicate 14 0 ++ first ∷ second ∷ third ∷ fourth ∷ replicate 4 0
 
 -- The words ws′ differ from ws in level l's row alone.
 pub record Within (l : ℕ) (ws ws′ : List ℕ) : Type 0 where

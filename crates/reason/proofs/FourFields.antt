@@ -20,7 +20,7 @@ use Rattle.script.proofs.Parted.{fields-together, no-tab-number}
 use Rattle.script.proofs.Same.{every}
 use Rattle.script.specs.EventForms.{lineEvent}
 use Rattle.script.specs.First.{lineFirst}
-use Rattle.script.specs.LineForms.{fields, tab}
+use Rattle.script.specs.LineForms.{tab}
 use Rattle.script.specs.ListingLine.{cell, lineFeed, listingLine}
 use Rattle.script.specs.Records.{lines, linesIn}
 use Rattle.script.specs.Texts.{parted, together}

@@ -30,7 +30,7 @@ use Rattle.script.specs.EventForms.{events, lineEvent}
 use Rattle.script.specs.First.{firstForm, lineFirst}
 use Rattle.script.specs.LineForms.{fields}
 use Rattle.script.specs.ListingLine.{lineFeed}
-use Rattle.script.specs.Records.{Lines, lines, linesIn}
+use Rattle.script.specs.Records.{Lines, linesIn}
 use Rattle.script.specs.declared.Parsed.{Parsed}
 use Rattle.script.specs.declared.Parsed.the-variants as parsed
 use Rattle.script.specs.declared.Start.{Start}

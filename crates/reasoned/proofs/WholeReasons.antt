@@ -14,7 +14,7 @@ use Rattle.script.specs.First.{lineFirst}
 use Rattle.script.specs.ListingLine.{lineFeed}
 use Rattle.script.specs.Records.{lastLine, lines, linesIn}
 use Rattle.session.proofs.WholeListing.{Plain, Plains, consumed-continued, continuedBy, ended-twice, extended-none, line-continued, line-ended, lines-plain}
-use Rattle.session.specs.Session.{Ended, Progress, after, begun, consumed, consumedLines, ended, extended, first, kept, later, stopped}
+use Rattle.session.specs.Session.{Ended, Progress, begun, consumed, consumedLines, ended, extended, first, kept, later, stopped}
 use Rattle.reasoned.specs.ReasonedCuts.{CutInTwo, ReasonedWhole, ToldWhole, joined, toldAll}
 use Rattle.reasoned.specs.ReasonedSession.{firstText, lastTold, lineText, told, toldLines}
 use Rattle.reasoned.proofs.ReasonedLines.{text-kept, text-twice}

@@ -26,11 +26,11 @@ fn private_count(shape: Shape) -> u64
     if shape.dr6_shared { DR6 } else { DR6 + 1 }
 }
 
-fn to_page(setup: Setup, page: u64) -> Next
-    ensures { λ r. ⌜ r ≡ toPage setup page ⌝ }
+fn to_page(setup: Setup, page: Page) -> Next
+    ensures { λ r. ⌜ r ≡ toPage setup (page .0) ⌝ }
 {
-    if page < setup.pages {
-        return Next::At(Place::Word(Page(page)));
+    if page.0 < setup.pages {
+        return Next::At(Place::Word(page));
     }
     Next::Done
 }
@@ -39,7 +39,7 @@ fn after_page(setup: Setup, page: Page) -> Next
     ensures { λ r. ⌜ r ≡ toPage setup (page .0 + 1) ⌝ }
 {
     if page.0 < setup.pages {
-        return to_page(setup, page.0 + 1);
+        return to_page(setup, Page(page.0 + 1));
     }
     Next::Done
 }
@@ -53,22 +53,22 @@ fn after_mask(setup: Setup, page: Page, level: Level) -> Next
     after_page(setup, page)
 }
 
-fn to_contexts(setup: Setup, vp: u64) -> Next
-    ensures { λ r. ⌜ r ≡ toContexts setup vp ⌝ }
+fn to_contexts(setup: Setup, vp: Processor) -> Next
+    ensures { λ r. ⌜ r ≡ toContexts setup (vp .0) ⌝ }
 {
-    if vp < setup.processors {
-        return Next::At(Place::Register(Processor(vp), Level(0), 0));
+    if vp.0 < setup.processors {
+        return Next::At(Place::Register(vp, Level(0), 0));
     }
-    to_page(setup, 0)
+    to_page(setup, Page(0))
 }
 
 fn after_contexts(setup: Setup, vp: Processor) -> Next
     ensures { λ r. ⌜ r ≡ toContexts setup (vp .0 + 1) ⌝ }
 {
     if vp.0 < setup.processors {
-        return to_contexts(setup, vp.0 + 1);
+        return to_contexts(setup, Processor(vp.0 + 1));
     }
-    to_page(setup, 0)
+    to_page(setup, Page(0))
 }
 
 fn after_context(setup: Setup, vp: Processor, level: Level) -> Next
@@ -101,11 +101,11 @@ fn after_pending(setup: Setup, vp: Processor, level: Level, word: u64) -> Next
     Next::At(Place::Enabled(vp, level))
 }
 
-fn to_secure(vp: Processor, level: Level, lower: u64) -> Next
-    ensures { λ r. ⌜ r ≡ toSecure vp level lower ⌝ }
+fn to_secure(vp: Processor, level: Level, lower: Level) -> Next
+    ensures { λ r. ⌜ r ≡ toSecure vp level (lower .0) ⌝ }
 {
-    if lower < level.0 {
-        return Next::At(Place::Secure(vp, level, Level(lower)));
+    if lower.0 < level.0 {
+        return Next::At(Place::Secure(vp, level, lower));
     }
     Next::At(Place::Reason(vp, level))
 }
@@ -114,27 +114,27 @@ fn after_secure(vp: Processor, level: Level, lower: Level) -> Next
     ensures { λ r. ⌜ r ≡ toSecure vp level (lower .0 + 1) ⌝ }
 {
     if lower.0 < level.0 {
-        return to_secure(vp, level, lower.0 + 1);
+        return to_secure(vp, level, Level(lower.0 + 1));
     }
     Next::At(Place::Reason(vp, level))
 }
 
-fn to_processor(setup: Setup, vp: u64) -> Next
-    ensures { λ r. ⌜ r ≡ toProcessor setup vp ⌝ }
+fn to_processor(setup: Setup, vp: Processor) -> Next
+    ensures { λ r. ⌜ r ≡ toProcessor setup (vp .0) ⌝ }
 {
-    if vp < setup.processors {
-        return Next::At(Place::Active(Processor(vp)));
+    if vp.0 < setup.processors {
+        return Next::At(Place::Active(vp));
     }
-    to_contexts(setup, 0)
+    to_contexts(setup, Processor(0))
 }
 
 fn after_processor(setup: Setup, vp: Processor) -> Next
     ensures { λ r. ⌜ r ≡ toProcessor setup (vp .0 + 1) ⌝ }
 {
     if vp.0 < setup.processors {
-        return to_processor(setup, vp.0 + 1);
+        return to_processor(setup, Processor(vp.0 + 1));
     }
-    to_contexts(setup, 0)
+    to_contexts(setup, Processor(0))
 }
 
 fn after_shared(setup: Setup, vp: Processor, register: u64) -> Next
@@ -152,7 +152,7 @@ fn after_level(setup: Setup, level: Level) -> Next
     if level.0 < setup.shape.max_level.0 {
         return Next::At(Place::PartitionEnabled(Level(level.0 + 1)));
     }
-    to_processor(setup, 0)
+    to_processor(setup, Processor(0))
 }
 
 // The first place of the sequence.
@@ -175,7 +175,7 @@ pub fn next(setup: Setup, place: Place) -> Next
         Place::Register(v, l, r) => after_register(setup, v, l, r),
         Place::Tpr(v, l) => Next::At(Place::Pending(v, l, 0)),
         Place::Pending(v, l, i) => after_pending(setup, v, l, i),
-        Place::Enabled(v, l) => to_secure(v, l, 0),
+        Place::Enabled(v, l) => to_secure(v, l, Level(0)),
         Place::Secure(v, l, k) => after_secure(v, l, k),
         Place::Reason(v, l) => Next::At(Place::From(v, l)),
         Place::From(v, l) => Next::At(Place::Rax(v, l)),

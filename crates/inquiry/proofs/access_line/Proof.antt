@@ -1,9 +1,5 @@
 -- `inquiry::access_line` meets its contract: what the line asks for, if its numbers are in range. Assumes nothing.
-use mathlib.Core.Path.{_≡_, refl, sym, ap, _∙_}
 use borrow.Author.Needs.{needs}
-use Rattle.inquiry.specs.AskedLines.{rangedBy}
-use Rattle.asked.specs.AskedAccess.{askedBy}
-use Rattle.asked.specs.declared.Asked.{Asked}
 use Rattle.inquiry.proofs.access_line.Statement.{statement}
 use Rattle.inquiry.proofs.access_line.Tie as tie
 

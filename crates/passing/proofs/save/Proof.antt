@@ -1,6 +1,5 @@
 -- `passing::save` meets its contract: by the phase in which the end of the script leaves the session. Assumes nothing.
 use mathlib.Core.List.{[]}
-use mathlib.Core.Path.{_≡_}
 use borrow.Author.Needs.{needs}
 use native.Mathlib.Omega.{arith}
 use Rattle.passing.proofs.SavedSessions.{line-zero-within}

@@ -1,11 +1,8 @@
 -- `passing::session_of` meets its contract: as many words are lent as there are pages. Assumes nothing.
-use mathlib.Core.Path.{_≡_, ap, _∙_}
-use Prim.Native.Nat.{ℕ, min}
+use mathlib.Core.Path.{_≡_}
+use Prim.Native.Nat.{min}
 use native.Mathlib.Omega.{arith}
 use borrow.Author.Needs.{needs}
-use lib.ListN.{take}
-use Rattle.session.specs.Session.{later}
-use Rattle.state.specs.Lent.{lent}
 use Rattle.passing.proofs.session_of.Statement.{statement}
 use Rattle.passing.proofs.session_of.Tie as tie
 

@@ -1,7 +1,6 @@
 -- `occurs` is safe and ends: it counts no more bytes than it has passed. Assumes nothing.
 use Prim.Native.Nat.{_-_, _≤_}
 use borrow.Author.Needs.{needs}
-use native.Mathlib.Omega.{arith}
 use lib.ListN.{length}
 use Rattle.shell.proofs.hints.occurs.Statement.{statement}
 use Rattle.shell.proofs.hints.occurs.Tie as tie

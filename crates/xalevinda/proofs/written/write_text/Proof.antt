@@ -1,5 +1,4 @@
 -- `xalevinda::written::write_text` meets its contract: what a fresh session writes of a script is its listing. Assumes nothing.
-use mathlib.Core.Path.{_≡_}
 use borrow.Author.Needs.{needs}
 use Rattle.session.proofs.WholeListing.{listing-consumed}
 use Rattle.xalevinda.proofs.written.write_text.Statement.{statement}
