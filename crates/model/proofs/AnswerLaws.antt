@@ -2,7 +2,7 @@
 -- an intercept is entry alone. Assumes nothing.
 use mathlib.Core.Path.{_≡_, refl, sym, ap, subst}
 use mathlib.Core.Bool.{Bool, true, false, not, cond, _&&_, false≢true, and-false}
-use mathlib.Core.List.{List, [], _∷_}
+use mathlib.Core.List.{List, [], _∷_, _++_}
 use mathlib.Core.Option.{some}
 use Prim.Native.Nat.{ℕ, _≤_, _<_}
 use native.Mathlib.Omega.{arith}
@@ -11,10 +11,11 @@ use borrow.Author.Tests.{leb-true, leb-false, ltb-true, eqb-true, eqb-false, eq-
 use Rattle.model.specs.declared.answer.Refusal.the-variants as refusal
 use Rattle.model.specs.Answers.{Answer, Done, Refused, Intercept, Refusal, refusalNumber, numberOf, valueOf, _when_, firstOf}
 use Rattle.model.specs.Claims.{conditions, rises, applies, Rising, Smallest, Unchanged, Entered, OnlyEntered}
-use Rattle.model.specs.Events.{byAccess}
-use Rattle.model.specs.Memory.{deniesIn, denies, receiver}
-use Rattle.model.specs.State.{State, Access, Mode, processors, level, active, enabledOn}
-use Rattle.model.specs.Step.{Event, Enpart, Envp, Call, Ret, Read, Write, Fetch, Protect, Config, Secure, Flush, Rreg, Wreg, Tpr, Ack, Pstat, Vstat, Caps, Made, Int, Outcome, rule, ruleOf, maker, modeOf, intercepted, nextFor, ruled, step}
+use Rattle.model.specs.Registers.{registerOf}
+use Rattle.model.specs.Memory.{deniesIn, denies, denied, receiver, hostDenies}
+use Rattle.model.specs.State.{State, Access, Mode, Watch, processors, shape, pages, vp, context, level, noLevel, activeOf, active, enabledAt, enabledOn}
+use Rattle.model.specs.Step.{Event, Enpart, Envp, Call, Ret, Read, Write, Fetch, Protect, Config, Secure, Flush, Rreg, Wreg, Tpr, Ack, Pstat, Vstat, Caps, Cri, Crm, Made, Int, Outcome, rule, ruleOf, maker, modeOf, intercepted, nextFor, ruled, step}
+use Rattle.model.specs.Watching.{asksRead, asksWrite, watcher}
 use Rattle.model.specs.WellFormed.{wellFormed}
 use Rattle.model.proofs.Bools.{and-left, and-right, or-elim}
 use Rattle.model.proofs.BoundedLaws.{least-found}
@@ -35,9 +36,16 @@ abbrev plain : List (Answer × Bool) → Bool
 plain [] = true
 plain (c ∷ cs) = isRefusal (c .0) && plain cs
 
--- The conditions of an access that is made on processor v.
-abbrev accessConditions : State → ℕ → ℕ → ℕ → Access → List (Answer × Bool)
-accessConditions s v mode p a = Refusal.NoSuchProcessor when leb (processors s) v ∷ Refusal.NoSuchMode when ltb 1 mode ∷ byAccess s v (modeOf mode) p a
+-- All but the last.
+abbrev front : List (Answer × Bool) → List (Answer × Bool)
+front [] = []
+front (c ∷ []) = []
+front (c ∷ d ∷ cs) = c ∷ front (d ∷ cs)
+
+-- The conditions of what a level does on processor v, where one of them is an intercept of level l: those before it, and those after it.
+abbrev intercepting : State → ℕ → ℕ → List (Answer × Bool) → ℕ → List (Answer × Bool) → List (Answer × Bool)
+intercepting s v mode before l after =
+    Refusal.NoSuchProcessor when leb (processors s) v ∷ Refusal.NoSuchMode when ltb 1 mode ∷ (before ++ ((Intercept (level l), ltb l noLevel) ∷ after))
 
 -- A proof for each answer that the list can give, with what is known there: the condition holds and those before it fail. What
 -- the list gives is a function of the answer where no condition applies: that answer itself, or always one and the same.
@@ -68,55 +76,12 @@ module _ (P : Given) (refused : (r : Refusal) → P (λ a. Refused r)) where
   plain-cases (c ∷ cs) p f =
       (λ e. a-refusal (c .0) (and-left (isRefusal (c .0)) (plain cs) p), λ e. plain-cases cs (and-right (isRefusal (c .0)) (plain cs) p) (λ q. f (e, q)))
 
-  access-cases : (s : State) (v mode p : ℕ) (access : Access) → (leb (processors s) v ≡ false → ltb (receiver s v (modeOf mode) p access) 4 ≡ true → P (λ a. Intercept (level (receiver s v (modeOf mode) p access)))) →
-      (Passed (accessConditions s v mode p access) → P (λ a. a)) → Cases P (accessConditions s v mode p access)
-  access-cases s v mode p access taken f = (
-    λ _. refused Refusal.NoSuchProcessor,
-    λ inside. (
-      λ _. refused Refusal.NoSuchMode,
-      λ h₂. (
-        λ _. refused Refusal.NoSuchPage,
-        λ h₃. (
-          λ h. taken inside h,
-          λ h₉. (
-            λ _. refused Refusal.NoReceiver,
-            λ h₁₀. (
-              λ _. refused Refusal.HostDenies,
-              λ h₁₁.
-                  f (inside, (h₂, (h₃, (h₉, (h₁₀, (h₁₁, tt)))))),
-            ),
-          ),
-        ),
-      ),
-    ),
-  )
-
--- Every event's conditions are plain and rise, or are those of an access by its maker.
-data Kind (s : State) (e : Event) : Type 0 where
-  ordinary : (plain (rule s e .refusals) && rises 1 (rule s e .refusals)) ≡ true → Kind s e
-  access : (v mode p : ℕ) (a : Access) → maker e ≡ some v → rule s e .refusals ≡ accessConditions s v mode p a → Kind s e
-
-kind : (s : State) (e : Event) → Kind s e
-unfolding rule ruleOf maker
-kind s (Made v mode (Enpart t mbec)) = ordinary refl
-kind s (Made v mode (Envp w t ip sp cr)) = ordinary refl
-kind s (Made v mode (Call len)) = ordinary refl
-kind s (Made v mode (Ret len)) = ordinary refl
-kind s (Made v mode (Read p)) = access (v .0) mode (p .0) Access.Read refl refl
-kind s (Made v mode (Write p x)) = access (v .0) mode (p .0) Access.Write refl refl
-kind s (Made v mode (Fetch p)) = access (v .0) mode (p .0) Access.Fetch refl refl
-kind s (Made v mode (Protect p k)) = ordinary refl
-kind s (Made v mode (Config g w)) = ordinary refl
-kind s (Made v mode (Secure l w)) = ordinary refl
-kind s (Made v mode Flush) = ordinary refl
-kind s (Made v mode (Rreg g r)) = ordinary refl
-kind s (Made v mode (Wreg g r x)) = ordinary refl
-kind s (Made v mode (Tpr class)) = ordinary refl
-kind s (Made v mode Ack) = ordinary refl
-kind s (Int w g n) = ordinary refl
-kind s (Made v mode Pstat) = ordinary refl
-kind s (Made v mode Vstat) = ordinary refl
-kind s (Made v mode Caps) = ordinary refl
+  -- One of them is an intercept.
+  one-cases : (before : List (Answer × Bool)) (c : Answer × Bool) (after : List (Answer × Bool)) → plain before ≡ true → plain after ≡ true → (c .1 ≡ true → P (λ a. c .0)) →
+      (Passed (before ++ (c ∷ after)) → P (λ a. a)) → Cases P (before ++ (c ∷ after))
+  one-cases [] c after p q taken f = (taken, λ e. plain-cases after q (λ h. f (e, h)))
+  one-cases (b ∷ bs) c after p q taken f =
+      (λ e. a-refusal (b .0) (and-left (isRefusal (b .0)) (plain bs) p), λ e. one-cases bs c after (and-right (isRefusal (b .0)) (plain bs) p) q taken (λ h. f (e, h)))
 
 -- An intercept: its maker's processor is there, and its receiver.
 pub record Taken (s : State) (e : Event) (l : ℕ) : Type 0 where
@@ -143,6 +108,66 @@ receiver-taken s e v mode p a m i h =
       above = ltb-true (active s v) t (and-left (ltb (active s v) t) _ (and-left _ _ (and-left (denies s v mode p a t) (enabledOn s v t) f)));
     }
 
+-- What the lowest level that asks is.
+watcher-taken : (s : State) (e : Event) (v g : ℕ) (asks : Watch → Bool) → maker e ≡ some v → leb (processors s) v ≡ false → ltb (watcher (shape s) (vp s v) g asks) 4 ≡ true → Taken s e (watcher (shape s) (vp s v) g asks)
+unfolding watcher active enabledOn
+watcher-taken s e v g asks m i h =
+    let t : ℕ = watcher (shape s) (vp s v) g asks in
+    let in-t : t < 4 = ltb-true t 4 h in
+    let own : Bool = eqb g (activeOf (vp s v)) in
+    let on : Bool = enabledAt (shape s) (vp s v) t in
+    let f : (own && ltb g t && on && asks (context (shape s) (vp s v) t .watch)) ≡ true =
+    least-found 4 (λ t. eqb g (activeOf (vp s v)) && ltb g t && enabledAt (shape s) (vp s v) t && asks (context (shape s) (vp s v) t .watch)) in-t in
+    let a : (own && ltb g t && on) ≡ true = and-left (own && ltb g t && on) _ f in
+    let b : (own && ltb g t) ≡ true = and-left (own && ltb g t) on a in
+    let q : g ≡ activeOf (vp s v) = eqb-true g (activeOf (vp s v)) (and-left own (ltb g t) b) in
+    record {
+      v = v;
+      made = m;
+      inside = leb-false (processors s) v i;
+      within = in-t;
+      enabled = and-right (own && ltb g t) on a;
+      above = let r : g < t = ltb-true g t (and-right own (ltb g t) b) in omega arith;
+    }
+
+-- Every event's conditions rise; they are plain, or one of them is an intercept of the maker's processor.
+data Kind (s : State) (e : Event) : Type 0 where
+  ordinary : (plain (rule s e .refusals) && rises 1 (rule s e .refusals)) ≡ true → Kind s e
+  watched : (v mode : ℕ) (before : List (Answer × Bool)) (l : ℕ) (after : List (Answer × Bool)) → maker e ≡ some v → rule s e .refusals ≡ intercepting s v mode before l after →
+      (plain before && plain after && rises 1 (rule s e .refusals)) ≡ true → (leb (processors s) v ≡ false → ltb l noLevel ≡ true → Taken s e l) → Kind s e
+
+-- The conditions of an access before its intercept, and those after it.
+abbrev noPage : State → ℕ → List (Answer × Bool)
+noPage s p = Refusal.NoSuchPage when leb (pages s) p ∷ []
+
+abbrev unheard : State → ℕ → Mode → ℕ → Access → List (Answer × Bool)
+unheard s v mode p a = Refusal.NoReceiver when denied s v mode p a ∷ Refusal.HostDenies when hostDenies s p a ∷ []
+
+kind : (s : State) (e : Event) → Kind s e
+unfolding rule ruleOf maker
+kind s (Made v mode (Enpart t mbec)) = ordinary refl
+kind s (Made v mode (Envp w t ip sp cr)) = ordinary refl
+kind s (Made v mode (Call len)) = ordinary refl
+kind s (Made v mode (Ret len)) = ordinary refl
+kind s (Made v mode (Read p)) = watched (v .0) mode (noPage s (p .0)) (receiver s (v .0) (modeOf mode) (p .0) Access.Read) (unheard s (v .0) (modeOf mode) (p .0) Access.Read) refl refl refl (receiver-taken s _ (v .0) (modeOf mode) (p .0) Access.Read refl)
+kind s (Made v mode (Write p x)) = watched (v .0) mode (noPage s (p .0)) (receiver s (v .0) (modeOf mode) (p .0) Access.Write) (unheard s (v .0) (modeOf mode) (p .0) Access.Write) refl refl refl (receiver-taken s _ (v .0) (modeOf mode) (p .0) Access.Write refl)
+kind s (Made v mode (Fetch p)) = watched (v .0) mode (noPage s (p .0)) (receiver s (v .0) (modeOf mode) (p .0) Access.Fetch) (unheard s (v .0) (modeOf mode) (p .0) Access.Fetch) refl refl refl (receiver-taken s _ (v .0) (modeOf mode) (p .0) Access.Fetch refl)
+kind s (Made v mode (Protect p k)) = ordinary refl
+kind s (Made v mode (Config g w)) = ordinary refl
+kind s (Made v mode (Secure l w)) = ordinary refl
+kind s (Made v mode Flush) = ordinary refl
+kind s (Made v mode (Rreg g r)) = watched (v .0) mode (front (ruleOf s (v .0) (modeOf mode) (Rreg g r) .refusals)) _ [] refl refl refl (watcher-taken s _ (v .0) (g .0) (asksRead r) refl)
+kind s (Made v mode (Wreg g r x)) = watched (v .0) mode (front (ruleOf s (v .0) (modeOf mode) (Wreg g r x) .refusals)) _ [] refl refl refl
+    (watcher-taken s _ (v .0) (g .0) (asksWrite r (registerOf (shape s) (vp s (v .0)) (g .0) r) x) refl)
+kind s (Made v mode (Tpr class)) = ordinary refl
+kind s (Made v mode Ack) = ordinary refl
+kind s (Int w g n) = ordinary refl
+kind s (Made v mode Pstat) = ordinary refl
+kind s (Made v mode Vstat) = ordinary refl
+kind s (Made v mode Caps) = ordinary refl
+kind s (Made v mode (Cri word)) = ordinary refl
+kind s (Made v mode (Crm n mask)) = ordinary refl
+
 -- What the conditions of an event give: it is done and none applies, or it is refused, or intercepted.
 pub condition-cases : (s : State) (e : Event) (P : (Answer → Answer) → Type 0) → (Passed (rule s e .refusals) → P (λ a. a)) → ((r : Refusal) → P (λ a. Refused r)) → ((l : ℕ) → Taken s e l → P (λ a. Intercept (level l))) →
     P (firstOf (rule s e .refusals))
@@ -150,8 +175,16 @@ condition-cases s e P done refused taken = go (kind s e)
   where
     go : Kind s e → P (firstOf (rule s e .refusals))
     go (ordinary p) = by-cases P _ (plain-cases P refused (rule s e .refusals) (and-left (plain (rule s e .refusals)) _ p) done)
-    go (access v mode p a m q) =
-        by-cases P _ (rw q (access-cases P refused s v mode p a (λ i h. taken _ (receiver-taken s e v (modeOf mode) p a m i h)) (λ ps. done (subst Passed (sym q) ps))))
+    go (watched v mode before l after m q p t) =
+        let both : (plain before && plain after) ≡ true = and-left (plain before && plain after) _ p in
+        by-cases P _ (rw q (
+          λ _. refused Refusal.NoSuchProcessor,
+          λ inside. (
+            λ _. refused Refusal.NoSuchMode,
+            λ mode-there. one-cases P refused before (Intercept (level l), ltb l noLevel) after (and-left (plain before) (plain after) both) (and-right (plain before) (plain after) both)
+                (λ h. taken l (t inside h)) (λ h. done (subst Passed (sym q) (inside, (mode-there, h)))),
+          ),
+        ))
 
 -- The same for one step.
 abbrev pub given : State → Event → Answer → Outcome
@@ -193,6 +226,7 @@ not-nine refusal.NoSuchPage = refl
 not-nine refusal.InvalidMask = refl
 not-nine refusal.ReservedBits = refl
 not-nine refusal.Cr0InRealMode = refl
+not-nine refusal.NoSuchMask = refl
 not-nine refusal.UserMode = refl
 not-nine refusal.CallInRealMode = refl
 not-nine refusal.RcxNotZero = refl
@@ -206,6 +240,7 @@ not-nine refusal.TargetGuarded = refl
 not-nine refusal.TargetAbove = refl
 not-nine refusal.TargetNotBelow = refl
 not-nine refusal.ProtectAtLevelZero = refl
+not-nine refusal.WatchAtLevelZero = refl
 not-nine refusal.EnabledForPartition = refl
 not-nine refusal.EnabledOnProcessor = refl
 not-nine refusal.NotEnabledForPartition = refl
@@ -242,7 +277,7 @@ rising s e = go (kind s e)
   where
     go : Kind s e → rises 1 (conditions s e) ≡ true
     go (ordinary p) = and-right (plain (rule s e .refusals)) (rises 1 (rule s e .refusals)) p
-    go (access v mode p a m q) = rw q refl
+    go (watched v mode before l after m q p t) = and-right (plain before && plain after) (rises 1 (rule s e .refusals)) p
 
 record First (n : ℕ) (cs : List (Answer × Bool)) (a : Answer) : Type 0 where
   applying : (numberOf a ≡ 0 → ⊥) → applies (numberOf a) cs ≡ true

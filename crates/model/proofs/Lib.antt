@@ -10,6 +10,7 @@ pub mod FreshFormed  -- the fresh machine is well formed
 pub mod CasesGiven  -- the eight proved cases
 pub mod Maps  -- the map that sees the place
 pub mod TopVectors  -- the highest ready vector, by words and bits
+pub mod WatchTable  -- the table of watched registers
 pub mod Found  -- what the searches on one processor find
 pub mod Visible  -- hiding and one processor
 pub mod Whole  -- hiding and the whole state

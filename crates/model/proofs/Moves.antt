@@ -13,13 +13,13 @@ use borrow.Author.Tests.{lt-ltb, le-leb, lt-leb, eq-eqb, eqb-true, eqb-false, lt
 use Rattle.word.specs.Field.{bit}
 use Rattle.model.specs.Arrays.{numberAt, stored}
 use Rattle.model.specs.Entry.{recordOf, enter, nextUp, advanced, called, restored, waiting, reentered, left, returned, enters, interrupted, startedContext, started, acknowledged, byCall, byInterrupt}
-use Rattle.model.specs.Events.{configured}
+use Rattle.model.specs.Events.{configured, watchEffect}
 use Rattle.model.specs.Masks.{readBit, writeBit, turnsOn, defaultMask, protectsIn, protects}
 use Rattle.model.specs.Memory.{needed}
 use Rattle.model.specs.Registers.{rip, cr0, rax, rcx, protectedBit, isPrivate, privateOf, sharedOf}
-use Rattle.model.specs.State.{State, Context, Partition, Shape, VirtualProcessor, Access, noContext, pastContext, noVp, pastVp, processors, shape, pages, partition, isLevel, isProcessor, vp, context, activeOf, active, enabledAt, enabledOn, enabledAnywhere, configIn, maskIn, maskOf, hostMask, wordOf}
-use Rattle.model.specs.Step.{Event, Enpart, Envp, Call, Ret, Read, Write, Fetch, Protect, Config, Secure, Flush, Rreg, Wreg, Tpr, Ack, Pstat, Vstat, Caps, Made, Int, rule, ruleOf, maker, modeOf, intercepted, nextFor, step}
-use Rattle.model.specs.Updates.{withControl, withActive, putContext, setShared, setPrivate, setRegister, setTpr, setPending, setSecure, unlocked, enableLevel, setConfig, setMask, filled, fillMasks, putVp, putPartition, setWord, onVp, onPartition}
+use Rattle.model.specs.State.{State, Context, Partition, Shape, VirtualProcessor, Access, Watch, noContext, pastContext, noVp, pastVp, processors, shape, pages, partition, isLevel, isProcessor, vp, context, activeOf, active, enabledAt, enabledOn, enabledAnywhere, configIn, maskIn, maskOf, hostMask, wordOf}
+use Rattle.model.specs.Step.{Event, Enpart, Envp, Call, Ret, Read, Write, Fetch, Protect, Config, Secure, Flush, Rreg, Wreg, Tpr, Ack, Pstat, Vstat, Caps, Cri, Crm, Made, Int, rule, ruleOf, maker, modeOf, intercepted, nextFor, step}
+use Rattle.model.specs.Updates.{withControl, withActive, putContext, setShared, setPrivate, setRegister, setTpr, setPending, setSecure, setWatch, withIntercepts, withCrMask, unlocked, enableLevel, setConfig, setMask, filled, fillMasks, putVp, putPartition, setWord, onVp, onPartition}
 use Rattle.model.specs.WellFormed.{wellModedVp, wellModed, wellFormed}
 use Rattle.model.proofs.AnswerLaws.{Passed, step-cases}
 use Rattle.model.proofs.ArrayLaws.{set-cases, stored-cases, number-cases}
@@ -173,6 +173,10 @@ module _ (K : ℕ) where
     enter-turned : (p : VirtualProcessor) (l reason : ℕ) → TurnedAll p (enter z p l reason)
     unfolding enter
     enter-turned p l reason = then-all p _ _ (quiet-put p l (withControl (context z p l) (recordOf p reason)) refl) (active-turned _ l)
+
+    setWatch-turned : (p : VirtualProcessor) (l : ℕ) (w : Watch) → TurnedAll p (setWatch z p l w)
+    unfolding setWatch
+    setWatch-turned p l w = quiet-put p l _ refl
 
     setTpr-turned : (p : VirtualProcessor) (l class : ℕ) → TurnedAll p (setTpr z p l class)
     unfolding setTpr
@@ -355,6 +359,9 @@ module _ (K : ℕ) (k : 1 ≤ K) (s : State) where
   low : (v : ℕ) → quietMaker K s (some v) ≡ true → activeOf (vp s v) < K
   low v c = unfold active in maker-low K (enabledAnywhere s) (closed K s) k s v c
 
+  watch-moved : (v : ℕ) (f : Watch → Watch) → Moved K s (watchEffect s v f)
+  watch-moved v f = onVp-moved K s v (λ z p. setWatch z p (activeOf p) (f (context z p (activeOf p) .watch))) (setWatch-turned K (enabledAnywhere s) (shape s) (vp s v) _ _)
+
   effect-moved : wellFormed s ≡ true → (e : Event) → quietMaker K s (maker e) ≡ true → Passed (rule s e .refusals) → Moved K s (rule s e .effect)
   unfolding rule ruleOf maker active
   effect-moved w (Made v mode (Enpart t mbec)) c ps = partition-moved K s (λ z x. enableLevel z x (t .0) (eqb mbec 1)) (enableLevel-below K (shape s) (partition s) (t .0) (eqb mbec 1))
@@ -383,6 +390,8 @@ module _ (K : ℕ) (k : 1 ≤ K) (s : State) where
   effect-moved w (Made v mode Pstat) c ps = same-moved K s
   effect-moved w (Made v mode Vstat) c ps = same-moved K s
   effect-moved w (Made v mode Caps) c ps = same-moved K s
+  effect-moved w (Made v mode (Cri word)) c ps = watch-moved (v .0) (λ w. withIntercepts w word)
+  effect-moved w (Made v mode (Crm n mask)) c ps = watch-moved (v .0) (λ w. withCrMask w (eqb n 4) mask)
 
   intercepted-moved : (m : Option ℕ) (l : ℕ) → Moved K s (intercepted s m l)
   unfolding intercepted

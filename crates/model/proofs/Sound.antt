@@ -15,8 +15,9 @@ use Rattle.model.specs.Bounded.{every}
 use Rattle.model.specs.Entry.{recordOf, enter, isReady, highestReady, nextUp, advanced, called, restored, waiting, reentered, left, returned, enters, interrupted, started, acknowledged, byCall, byInterrupt}
 use Rattle.model.specs.Masks.{secureReservedSet}
 use Rattle.model.specs.Registers.{rip, rax, rcx, isPrivate, sharedOf}
-use Rattle.model.specs.State.{Context, Control, Shape, VirtualProcessor, isLevel, context, activeOf, enabledAt, isPending, mbecBit, lockBit}
-use Rattle.model.specs.Updates.{withSecure, withControl, withActive, putContext, setShared, setPrivate, setRegister, setTpr, setPending, setSecure, cleared, unlocked}
+use Rattle.model.specs.State.{Context, Control, Shape, VirtualProcessor, Watch, isLevel, context, activeOf, enabledAt, isPending, mbecBit, lockBit}
+use Rattle.model.specs.Updates.{withSecure, withControl, withActive, putContext, setShared, setPrivate, setRegister, setTpr, setPending, setSecure, setWatch, cleared, unlocked}
+use Rattle.model.specs.Watching.{interceptReservedSet}
 use Rattle.model.specs.WellFormed.{neverEntered, wellEntered, wellFormedContext}
 use Rattle.model.proofs.ArrayLaws.{number-cases}
 use Rattle.model.proofs.Bools.{and-left, and-right, and-both, implied, implies-test, hold, all-hold, cond-holds}
@@ -30,7 +31,7 @@ abbrev pub allowed : Bool → ℕ → Bool
 allowed mbec w = not (secureReservedSet w) && (not (bit w mbecBit) || mbec)
 
 -- What well-formedness asks of a context of level l, field by field; `up` tells the levels enabled on the processor.
-pub record Sound (l : ℕ) (on mbec : Bool) (up : ℕ → Bool) (enabled : Bool) (tpr : ℕ) (pending secure : List ℕ) (control : Control) : Type 0 where
+pub record Sound (l : ℕ) (on mbec : Bool) (up : ℕ → Bool) (enabled : Bool) (tpr : ℕ) (pending secure : List ℕ) (control : Control) (watch : Watch) : Type 0 where
   pub part : enabled ≡ true → on ≡ true
   pub entry : 0 < l → enabled ≡ true → wellEntered l (up (control .from .0)) control ≡ true
   pub words : (j : ℕ) → j < l → allowed mbec (numberAt 4 secure j) ≡ true
@@ -38,9 +39,10 @@ pub record Sound (l : ℕ) (on mbec : Bool) (up : ℕ → Bool) (enabled : Bool)
   pub low : eqb (field 0 16 (numberAt 4 pending 0)) 0 ≡ true
   pub idle : enabled ≡ false → every 4 (λ i. eqb (numberAt 4 pending i) 0) ≡ true
   pub blank : 0 < l → enabled ≡ false → neverEntered control ≡ true
+  pub watched : 0 < l → not (interceptReservedSet (watch .intercepts)) ≡ true
 
 abbrev pub SoundContext : ℕ → Bool → Bool → Bool → (ℕ → Bool) → Context → Type 0
-SoundContext l on enabled mbec up c = Sound l on mbec up enabled (c .tpr) (c .pending) (c .secure) (c .control)
+SoundContext l on enabled mbec up c = Sound l on mbec up enabled (c .tpr) (c .pending) (c .secure) (c .control) (c .watch)
 
 -- As the test that the definition makes, and back.
 pub sound-test : (l : ℕ) (on enabled mbec : Bool) (up : ℕ → Bool) (c : Context) → SoundContext l on enabled mbec up c → wellFormedContext l on enabled mbec (up (c .control .from .0)) c ≡ true
@@ -49,7 +51,7 @@ sound-test l on enabled mbec up c g = all-hold _ (
   implies-test enabled on (g .part),
   (
     implies-test (ltb 0 l && enabled) _ (λ h. g .entry (ltb-true 0 l (and-left (ltb 0 l) enabled h)) (and-right (ltb 0 l) enabled h)),
-    (every-all l _ (g .words), (g .class, (g .low, (unless enabled _ (g .idle), (implies-test (ltb 0 l && not enabled) _ (λ h. g .blank (ltb-true 0 l (and-left (ltb 0 l) _ h)) (not-true enabled (and-right (ltb 0 l) _ h))), tt))))),
+    (every-all l _ (g .words), (g .class, (g .low, (unless enabled _ (g .idle), (implies-test (ltb 0 l && not enabled) _ (λ h. g .blank (ltb-true 0 l (and-left (ltb 0 l) _ h)) (not-true enabled (and-right (ltb 0 l) _ h))), (implies-test (ltb 0 l) _ (λ h. g .watched (ltb-true 0 l h)), tt)))))),
   ),
 )
   where
@@ -69,6 +71,7 @@ test-sound l on enabled mbec up c h =
       low = t .1 .1 .1 .1 .0;
       idle = other enabled _ (t .1 .1 .1 .1 .1 .0);
       blank = λ o e. implied (ltb 0 l && not enabled) _ (t .1 .1 .1 .1 .1 .1 .0) (rw (lt-ltb 0 l o, e) refl);
+      watched = λ o. implied (ltb 0 l) _ (t .1 .1 .1 .1 .1 .1 .1 .0) (lt-ltb 0 l o);
     }
   where
     other : (b t : Bool) → (b || t) ≡ true → b ≡ false → t ≡ true
@@ -87,6 +90,7 @@ sound-more l on on′ enabled mbec mbec′ up up′ c f m u g = record {
   low = g .low;
   idle = g .idle;
   blank = g .blank;
+  watched = g .watched;
 }
   where
     more : (w : ℕ) → allowed mbec w ≡ true → allowed mbec′ w ≡ true
@@ -141,6 +145,7 @@ module _ (z : Shape) (on mbec : ℕ → Bool) where
         low = h .low;
         idle = h .idle;
         blank = λ o d. absurd (true≢false (sym u ∙ d));
+        watched = h .watched;
       })) (rw (put-enabled z p l _ l) u)
 
   advanced-sound : (p : VirtualProcessor) (n : ℕ) → SoundVp p → SoundVp (advanced z p n)
@@ -168,6 +173,7 @@ module _ (z : Shape) (on mbec : ℕ → Bool) where
         rw (take-put-below (n % 64) 1 0 16 (numberAt 4 (context z p l .pending) (n / 64)) x (omega arith), sym e) (h .low));
     idle = λ d. absurd (true≢false (sym u ∙ d));
     blank = h .blank;
+    watched = h .watched;
   })
 
   pub interrupted-sound : (p : VirtualProcessor) (g n : ℕ) → 16 ≤ n → enabledAt z p g ≡ true → SoundVp p → SoundVp (interrupted z p g n)
@@ -199,12 +205,19 @@ module _ (z : Shape) (on mbec : ℕ → Bool) where
 
   pub setTpr-sound : (p : VirtualProcessor) (l class : ℕ) → isLevel z l ≡ true → leb class 15 ≡ true → SoundVp p → SoundVp (setTpr z p l class)
   unfolding setTpr
-  setTpr-sound p l class i c g = put-sound p l _ i g (λ h. record { part = h .part; entry = h .entry; words = h .words; class = c; low = h .low; idle = h .idle; blank = h .blank })
+  setTpr-sound p l class i c g = put-sound p l _ i g (λ h. record { part = h .part; entry = h .entry; words = h .words; class = c; low = h .low; idle = h .idle; blank = h .blank; watched = h .watched })
+
+  -- What a level asks to be told of registers.
+  pub setWatch-sound : (p : VirtualProcessor) (l : ℕ) (f : Watch → Watch) → isLevel z l ≡ true → ((w : Watch) → not (interceptReservedSet (w .intercepts)) ≡ true → not (interceptReservedSet (f w .intercepts)) ≡ true) → SoundVp p →
+      SoundVp (setWatch z p l (f (context z p l .watch)))
+  unfolding setWatch
+  setWatch-sound p l f i k g =
+      put-sound p l _ i g (λ h. record { part = h .part; entry = h .entry; words = h .words; class = h .class; low = h .low; idle = h .idle; blank = h .blank; watched = λ o. k (context z p l .watch) (h .watched o) })
 
   -- Secure words.
   words-sound : (p : VirtualProcessor) (t : ℕ) (ws : List ℕ) → isLevel z t ≡ true → ((j : ℕ) → j < t → allowed (mbec t) (numberAt 4 (context z p t .secure) j) ≡ true → allowed (mbec t) (numberAt 4 ws j) ≡ true) → SoundVp p →
       SoundVp (putContext z p t (withSecure (context z p t) ws))
-  words-sound p t ws i f g = put-sound p t _ i g (λ h. record { part = h .part; entry = h .entry; words = λ j b. f j b (h .words j b); class = h .class; low = h .low; idle = h .idle; blank = h .blank })
+  words-sound p t ws i f g = put-sound p t _ i g (λ h. record { part = h .part; entry = h .entry; words = λ j b. f j b (h .words j b); class = h .class; low = h .low; idle = h .idle; blank = h .blank; watched = h .watched })
 
   pub setSecure-sound : (p : VirtualProcessor) (t l w : ℕ) → isLevel z t ≡ true → allowed (mbec t) w ≡ true → SoundVp p → SoundVp (setSecure z p t l w)
   unfolding setSecure
@@ -277,6 +290,7 @@ module _ (z : Shape) (on mbec : ℕ → Bool) where
           low = unfold numberAt in refl;
           idle = λ d. absurd (true≢false d);
           blank = λ o d. absurd (true≢false d);
+          watched = h .watched;
         })
         (λ l n b. sound-more l (on l) (on l) (enabledAt z p l) (mbec l) (mbec l) (enabledAt z p) (enabledAt z q) (context z p l) (λ e. e) (λ e. e) more (g .each l b)) j b;
   }

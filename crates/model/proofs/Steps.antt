@@ -1,6 +1,6 @@
 -- A step commutes with hiding: the answer is the same, and the next state is the hidden one of the next state.
 -- Assumes nothing.
-use mathlib.Core.Path.{_≡_, refl, sym, _∙_}
+use mathlib.Core.Path.{_≡_, refl, sym, ap, _∙_}
 use mathlib.Core.Bool.{Bool, true, false, not, cond, _&&_, _||_, false≢true, and-false}
 use mathlib.Core.List.{List, [], _∷_}
 use mathlib.Core.Option.{some}
@@ -13,13 +13,14 @@ use Rattle.model.specs.Answers.{Done, Refused, Intercept, Refusal}
 use Rattle.model.specs.Arrays.{numberAt}
 use Rattle.model.specs.Bounded.{every}
 use Rattle.model.specs.Entry.{enter, highestReady, nextUp, called, returned, interrupted, started, acknowledged, byInterrupt}
-use Rattle.model.specs.Events.{own, configured, locked}
+use Rattle.model.specs.Events.{own, configured, locked, watchEffect}
 use Rattle.model.specs.Masks.{validMask, readBit, writeBit, secureReservedSet, protects}
 use Rattle.model.specs.Memory.{needed, mbecOn, smepAllows, mbecCounts, deniesIn, denies, denied, receiver, hostDeniesBy, hostDenies}
-use Rattle.model.specs.Registers.{cr0, cr4, rflags, rcx, protectedBit, isPrivate, privateOf, sharedOf}
-use Rattle.model.specs.State.{State, Shape, VirtualProcessor, Access, Mode, level, processors, shape, pages, partition, isProcessor, vp, context, activeOf, active, enabledAt, enabledOn, enabledAnywhere, maskOf, hostMask, secureOf, mbecBit}
-use Rattle.model.specs.Step.{Event, Enpart, Envp, Call, Ret, Read, Write, Fetch, Protect, Config, Secure, Flush, Rreg, Wreg, Tpr, Ack, Pstat, Vstat, Caps, Made, Int, Outcome, rule, ruleOf, maker, modeOf, intercepted, nextFor, ruled, step}
-use Rattle.model.specs.Updates.{enableLevel, setMask, setRegister, setTpr, setSecure}
+use Rattle.model.specs.Registers.{registerOf, cr0, cr4, rflags, rcx, protectedBit, isPrivate, privateOf, sharedOf}
+use Rattle.model.specs.State.{State, Shape, VirtualProcessor, Access, Mode, Watch, level, processors, shape, pages, partition, isProcessor, vp, context, activeOf, active, enabledAt, enabledOn, enabledAnywhere, maskOf, hostMask, secureOf, mbecBit}
+use Rattle.model.specs.Step.{Event, Enpart, Envp, Call, Ret, Read, Write, Fetch, Protect, Config, Secure, Flush, Rreg, Wreg, Tpr, Ack, Pstat, Vstat, Caps, Cri, Crm, Made, Int, Outcome, rule, ruleOf, maker, modeOf, intercepted, nextFor, ruled, step}
+use Rattle.model.specs.Updates.{enableLevel, setMask, setRegister, setTpr, setSecure, setWatch, withIntercepts, withCrMask}
+use Rattle.model.specs.Watching.{asksRead, asksWrite, watcher}
 use Rattle.model.specs.WellFormed.{wellSized, wellFormedContext, wellFormedVp, wellFormedLevel, wellFormedParts, wellModedVp, wellModed, wellFormed}
 use Rattle.model.proofs.AnswerLaws.{Passed, Taken, given, condition-cases}
 use Rattle.model.proofs.Bools.{and-left, and-right, and-not, not-and, implied, implies-test, and-cong, positive}
@@ -31,7 +32,7 @@ use Rattle.model.proofs.Found.{enabled-level}
 use Rattle.model.proofs.Formed.{is-processor, is-level, is-page, active-level, host-valid, mask-valid}
 use Rattle.model.proofs.LevelSets.{in-hidden}
 use Rattle.model.proofs.Visible
-use Rattle.model.proofs.Visible.{hidden, context-hide, enabled-same, tpr-same, pending-same, secure-same, control-same, highest-same}
+use Rattle.model.proofs.Visible.{hidden, context-hide, enabled-same, tpr-same, pending-same, secure-same, control-same, watch-same, highest-same}
 use Rattle.model.proofs.Whole
 use Rattle.model.proofs.Whole.{processors-same, shape-same, maxLevel-same, pages-same, processor-same, host-same, lent-same, vp-hide, onVp-hide, onPartition-hide, active-hide, enabledOn-hide, anywhere-hide, partition-hide, enabledFor-hide, mbecFor-hide, config-hide, protects-hide, mask-hide, word-hide, setWord-hide}
 
@@ -55,7 +56,7 @@ module _ (K : ℕ) (E : ℕ → Bool) (z : Shape) (p : VirtualProcessor) where
 
       go : (l : ℕ) → formedIn (hideVp K E z p) l on mbec ≡ formedIn p l on mbec
       go zero = simp (enabled-same, words, tpr-same, pending-same)
-      go (suc l) = simp (enabled-same, words, tpr-same, pending-same, control-same K E z p (suc l) (omega arith))
+      go (suc l) = simp (enabled-same, words, tpr-same, pending-same, control-same K E z p (suc l) (omega arith), watch-same K E z p (suc l) (omega arith))
 
 -- CR0 bit 0 stays set where an enabled level's registers are hidden.
 cr0-kept : (z : Shape) (h : Bool) (xs : List ℕ) → bit (numberAt 13 xs cr0) protectedBit ≡ true → bit (numberAt 13 (mapAt (λ r x. cond (isPrivate z r) (cond h (cond (eqb r cr0 && true) 1 0) x) 0) xs) cr0) protectedBit ≡ true
@@ -168,6 +169,14 @@ module _ (K : ℕ) (E : ℕ → Bool) (H : ℕ → Bool) where
   highest-hide : (s : State) (v l : ℕ) → highestReady (context (shape (hide K E H s)) (vp (hide K E H s) v) l) ≡ highestReady (context (shape s) (vp s v) l)
   highest-hide s v l = rw (shape-same, vp-hide) (highest-same K E (shape s) (vp s v) l)
 
+  -- Who hears of an access to a register: what a level asks for is the same where g is the actor.
+  watcher-hide : (s : State) (v g : ℕ) (f f′ : Watch → Bool) → (g ≡ activeOf (vp s v) → f′ ≡ f) → watcher (shape (hide K E H s)) (vp (hide K E H s) v) g f′ ≡ watcher (shape s) (vp s v) g f
+  watcher-hide s v g f f′ h = rw (shape-same, vp-hide) (Visible.watcher-same K E (shape s) (vp s v) g f f′ h)
+
+  own-write : (s : State) (v g r x : ℕ) → active s v < K → g ≡ activeOf (vp s v) → asksWrite r (registerOf (shape (hide K E H s)) (vp (hide K E H s) v) g r) x ≡ asksWrite r (registerOf (shape s) (vp s v) g r) x
+  unfolding active
+  own-write s v g r x low e = ap (λ old. asksWrite r old x) (rw (shape-same, vp-hide) (Visible.register-hide K E (shape s) (vp s v) g r (omega arith)))
+
   -- The maker's active level is below K.
   pub maker-low : 1 ≤ K → (s : State) (v : ℕ) → quietMaker K s (some v) ≡ true → active s v < K
   unfolding quietMaker active activeOf vp isProcessor
@@ -190,14 +199,17 @@ module _ (K : ℕ) (E : ℕ → Bool) (H : ℕ → Bool) where
   refusals-same k s (Made v mode (Config g w)) c = simp Same
   refusals-same k s (Made v mode (Secure l w)) c = simp Same
   refusals-same k s (Made v mode Flush) c = simp (Same, locked-same)
-  refusals-same k s (Made v mode (Rreg g r)) c = simp Same
-  refusals-same k s (Made v mode (Wreg g r x)) c = simp Same
+  refusals-same k s (Made v mode (Rreg g r)) c = simp (processors-same, maxLevel-same, active-hide, enabledOn-hide, watcher-hide s (v .0) (g .0) (asksRead r) (asksRead r) (λ e. refl))
+  refusals-same k s (Made v mode (Wreg g r x)) c =
+      simp (processors-same, maxLevel-same, active-hide, enabledOn-hide, watcher-hide s (v .0) (g .0) (asksWrite r (registerOf (shape s) (vp s (v .0)) (g .0) r) x) (asksWrite r (registerOf (shape (hide K E H s)) (vp (hide K E H s) (v .0)) (g .0) r) x) (λ e. own-write s (v .0) (g .0) r x (maker-low k s (v .0) c) e))
   refusals-same k s (Made v mode (Tpr class)) c = simp Same
   refusals-same k s (Made v mode Ack) c = let low : active s (v .0) < K = maker-low k s (v .0) c in simp (processors-same, active-hide, highest-hide, own-same s (v .0) rflags low refl)
   refusals-same k s (Int w g n) c = simp Same
   refusals-same k s (Made v mode Pstat) c = simp Same
   refusals-same k s (Made v mode Vstat) c = simp Same
   refusals-same k s (Made v mode Caps) c = simp Same
+  refusals-same k s (Made v mode (Cri word)) c = simp Same
+  refusals-same k s (Made v mode (Crm n mask)) c = simp Same
 
   abbrev pub hideOutcome : Outcome → Outcome
   hideOutcome o = record { answer = o .answer; next = hide K E H (o .next) }
@@ -216,6 +228,11 @@ module _ (K : ℕ) (E : ℕ → Bool) (H : ℕ → Bool) where
         let has : bit (maskOf s t p) b ≡ true =
         not-false (bit (maskOf s t p) b) (and-not (ltb (active s v) t && protects s t) (not (bit (maskOf s t p) b)) allows (rw (lt-ltb (active s v) t (omega arith)) (and-right (leb K t) (protects s t) q))) in
         rw (weak (maskOf s t p) (mask-valid s w t p) has)))))
+
+    watch-hide : (v : ℕ) (f : Watch → Watch) → isProcessor s v ≡ true → 0 < activeOf (vp s v) → watchEffect (hide K E H s) v f ≡ hide K E H (watchEffect s v f)
+    watch-hide v f inside above =
+        onVp-hide K E H s v (λ z p. setWatch z p (activeOf p) (f (context z p (activeOf p) .watch))) inside
+        (rw Visible.active-same (Visible.setWatch-hide K E (shape s) (vp s v) (activeOf (vp s v)) f (active-level s w v inside) above))
 
     effect-hide : (e : Event) → quietMaker K s (maker e) ≡ true → Passed (rule s e .refusals) → rule (hide K E H s) e .effect ≡ hide K E H (rule s e .effect)
     unfolding rule ruleOf maker active
@@ -256,6 +273,8 @@ module _ (K : ℕ) (E : ℕ → Bool) (H : ℕ → Bool) where
     effect-hide (Made v mode Pstat) c ps = refl
     effect-hide (Made v mode Vstat) c ps = refl
     effect-hide (Made v mode Caps) c ps = refl
+    effect-hide (Made v mode (Cri word)) c ps = watch-hide (v .0) (λ w. withIntercepts w word) (is-processor s w (v .0) search) (positive (activeOf (vp s (v .0))) search)
+    effect-hide (Made v mode (Crm n mask)) c ps = watch-hide (v .0) (λ w. withCrMask w (eqb n 4) mask) (is-processor s w (v .0) search) (positive (activeOf (vp s (v .0))) search)
 
     value-same : (e : Event) → quietMaker K s (maker e) ≡ true → Passed (rule s e .refusals) → rule (hide K E H s) e .value ≡ rule s e .value
     unfolding rule ruleOf maker active
@@ -284,6 +303,8 @@ module _ (K : ℕ) (E : ℕ → Bool) (H : ℕ → Bool) where
     value-same (Made v mode Pstat) c ps = simp Same
     value-same (Made v mode Vstat) c ps = simp (Same, needs-same)
     value-same (Made v mode Caps) c ps = simp Same
+    value-same (Made v mode (Cri word)) c ps = refl
+    value-same (Made v mode (Crm n mask)) c ps = refl
 
     -- An intercept enters the receiver, a level above 0, on the maker's processor.
     intercepted-hide : (e : Event) (l : ℕ) → Taken s e l → intercepted (hide K E H s) (maker e) l ≡ hide K E H (intercepted s (maker e) l)

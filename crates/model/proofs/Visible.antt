@@ -7,13 +7,15 @@ use Prim.Native.Nat.{ℕ, zero, suc, _-_, _/_, _%_, _≤_, _<_}
 use native.Mathlib.Omega.{arith}
 use lib.Dec.{ltb, eqb}
 use lib.ListN.{length}
-use borrow.Author.Tests.{lt-ltb, lt-leb, ne-eqb, ltb-true, ltb-false, eqb-false}
+use borrow.Author.Tests.{lt-ltb, lt-leb, ne-eqb, ltb-true, ltb-false, eqb-true, eqb-false}
 use Rattle.word.specs.Field.{put}
 use Rattle.model.specs.Arrays.{numberAt, stored}
+use Rattle.model.specs.Bounded.{least}
 use Rattle.model.specs.Entry.{recordOf, enter, isReady, highestReady, nextUp, advanced, called, restored, waiting, reentered, left, returned, enters, interrupted, startedContext, started, acknowledged, byCall, byInterrupt}
 use Rattle.model.specs.Registers.{rip, cr0, dr6, rax, rcx, isPrivate, privateOf, sharedOf, registerOf}
-use Rattle.model.specs.State.{Context, Shape, VirtualProcessor, LevelSet, noContext, pastContext, isLevel, inSet, context, activeOf, enabledAt, secureOf, isPending, lockBit}
-use Rattle.model.specs.Updates.{withRegisters, withTpr, withPending, withSecure, withControl, withActive, putContext, setShared, setPrivate, setRegister, setTpr, setPending, setSecure, cleared, unlocked, withLevel}
+use Rattle.model.specs.State.{Context, Shape, VirtualProcessor, LevelSet, Watch, noLevel, noControl, noWatch, noContext, pastContext, isLevel, inSet, context, activeOf, enabledAt, secureOf, isPending, lockBit}
+use Rattle.model.specs.Updates.{withRegisters, withTpr, withPending, withSecure, withControl, withWatch, withActive, putContext, setShared, setPrivate, setRegister, setTpr, setPending, setSecure, setWatch, cleared, unlocked, withLevel}
+use Rattle.model.specs.Watching.{watcher}
 use Rattle.model.proofs.Bools.{and-not, or-left, or-right, cond-same, cond-ap, cond-holds}
 use Rattle.model.proofs.LevelSets.{in-hidden, in-here, in-other, with-hidden}
 use Rattle.model.proofs.Found.{enabled-level, nextUp-found, waiting-found, advanced-active, unlocked-active}
@@ -28,7 +30,7 @@ register-none z h r = simp (and-false, cond-same)
 pub hideContext-none : (z : Shape) (h : Bool) (l : ℕ) → hideContext z h false l noContext ≡ noContext
 unfolding hideContext
 hideContext-none z h l =
-    rw (mapAt-replicate {A = ℕ} (λ r x. cond (isPrivate z r) (cond h (cond (eqb r cr0 && false) 1 0) x) 0) 13 0 (register-none z h), mapAt-replicate {A = ℕ} (λ j w. cond (ltb j l) w 0) 4 0 (λ j. cond-same (ltb j l) 0), cond-same)
+    rw (mapAt-replicate {A = ℕ} (λ r x. cond (isPrivate z r) (cond h (cond (eqb r cr0 && false) 1 0) x) 0) 13 0 (register-none z h), mapAt-replicate {A = ℕ} (λ j w. cond (ltb j l) w 0) 4 0 (λ j. cond-same (ltb j l) 0), cond-same (eqb l 0) noControl, cond-same (eqb l 0) noWatch)
 
 hideContext-past : (z : Shape) (h on : Bool) (l : ℕ) → hideContext z h on l pastContext ≡ pastContext
 unfolding hideContext
@@ -154,6 +156,27 @@ module _ (K : ℕ) (E : ℕ → Bool) (z : Shape) where
   pub control-same : (p : VirtualProcessor) (l : ℕ) → 0 < l → context z (hideVp K E z p) l .control ≡ context z p l .control
   unfolding hidden hideContext
   control-same p l o = rw (context-hide, ne-eqb l 0 (λ e. omega arith))
+
+  -- What a level above 0 asks to be told of registers, and the level that hears of an access to level g's. `f` and `f′` are what a level asks for as
+  -- the processor and as the hidden one has it: the same where g is the actor.
+  pub watch-same : (p : VirtualProcessor) (l : ℕ) → 0 < l → context z (hideVp K E z p) l .watch ≡ context z p l .watch
+  unfolding hidden hideContext
+  watch-same p l o = rw (context-hide, ne-eqb l 0 (λ e. omega arith))
+
+  pub watcher-same : (p : VirtualProcessor) (g : ℕ) (f f′ : Watch → Bool) → (g ≡ activeOf p → f′ ≡ f) → watcher z (hideVp K E z p) g f′ ≡ watcher z p g f
+  unfolding watcher
+  watcher-same p g f f′ h = ap (least noLevel) (λ i t. each t (eqb g (activeOf p)) refl (ltb g t) refl i)
+    where
+      each : (t : ℕ) (a : Bool) → eqb g (activeOf p) ≡ a → (b : Bool) → ltb g t ≡ b →
+          (eqb g (activeOf (hideVp K E z p)) && ltb g t && enabledAt z (hideVp K E z p) t && f′ (context z (hideVp K E z p) t .watch)) ≡ (eqb g (activeOf p) && ltb g t && enabledAt z p t && f (context z p t .watch))
+      each t true e true d = rw (active-same p, enabled-same p t, watch-same p t (let o : g < t = ltb-true g t d in omega arith), h (eqb-true g (activeOf p) e))
+      each t true e false d = rw (active-same p, d, and-false)
+      each t false e b d = rw (active-same p, e)
+
+  pub setWatch-hide : (p : VirtualProcessor) (l : ℕ) (f : Watch → Watch) → isLevel z l ≡ true → 0 < l →
+      setWatch z (hideVp K E z p) l (f (context z (hideVp K E z p) l .watch)) ≡ hideVp K E z (setWatch z p l (f (context z p l .watch)))
+  unfolding setWatch hidden hideContext
+  setWatch-hide p l f k o = alter-hide p l (λ c. withWatch c (f (c .watch))) k (rw (ne-eqb l 0 (λ e. omega arith)))
 
   pub setTpr-hide : (p : VirtualProcessor) (l class : ℕ) → isLevel z l ≡ true → setTpr z (hideVp K E z p) l class ≡ hideVp K E z (setTpr z p l class)
   unfolding setTpr hidden hideContext

@@ -1,11 +1,12 @@
 -- What is proved of the definitions, each once for all events and states (proofs/). Assumes nothing.
 use mathlib.Core.Path.{_≡_}
-use mathlib.Core.Bool.{Bool, true, false, not, _&&_, _||_}
+use mathlib.Core.Bool.{Bool, true, false, not, Bool·beq, _&&_, _||_}
 use mathlib.Core.List.{List, [], _∷_, map}
 use mathlib.Core.Option.{some}
 use Prim.Native.Nat.{ℕ, _^_, _≤_, _<_}
 use lib.Dec.{leb, eqb}
-use lib.ListN.{length}
+use lib.ListN.{length, getD}
+use Rattle.word.specs.RegisterFields.{positionOf}
 use Rattle.model.specs.Arrays.{numberAt}
 use Rattle.model.specs.Answers.{Answer, Refusal, numberOf, valueOf, _when_}
 use Rattle.model.specs.Cases.{cases, given, expected}
@@ -15,6 +16,7 @@ use Rattle.model.specs.Registers.{rflags, rax, registerOf}
 use Rattle.model.specs.State.{State, Context, FirstLine, Shape, VirtualProcessor, processors, active, enabledOn, isPending}
 use Rattle.model.specs.Updates.{onVp, setPrivate, setRegister}
 use Rattle.model.specs.Step.{Event, Outcome, rule, maker, step}
+use Rattle.model.specs.Watching.{WatchedAccess, reads, notModelled, watchTable, interceptControlNumber, askedIn}
 use Rattle.model.specs.WellFormed.{wellFormed}
 
 -- All conditions on which an event is refused or intercepted.
@@ -81,6 +83,18 @@ pub record TopVectorDecides (c : Context) : Type 0 where
 
 abbrev pub TopVector : Type 0
 TopVector = (c : Context) → ((i : ℕ) → i < 4 → numberAt 4 (c .pending) i < 2 ^ 64) → TopVectorDecides c
+
+-- 02, request 6: row i of the table is the i-th named bit of 001's intercept control word. That bit alone asks for the row's access to its register, one of
+-- ours, and for no other; a bit whose register we do not model asks for none.
+abbrev pub row : ℕ → WatchedAccess
+row i = getD watchTable i (reads 0 notModelled)
+
+pub record RowDecides (i : ℕ) : Type 0 where
+  pub named : row i .position ≡ positionOf interceptControlNumber i
+  pub asks : (r : ℕ) (write : Bool) → r ≤ 31 → askedIn watchTable (2 ^ i) r write ≡ (eqb (row i .register) r && Bool·beq (row i .write) write)
+
+abbrev pub TableDecides : Type 0
+TableDecides = (i : ℕ) → i < 25 → RowDecides i
 
 -- The eight proved cases.
 abbrev pub AllGiven : Type 0

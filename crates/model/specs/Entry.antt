@@ -91,7 +91,7 @@ interrupted z p g n =
     cond (enters z p g n) (enter z q g byInterrupt) q
 
 -- envp: level t is enabled. Sets RIP, RSP and CR0, the other private registers 0, TPR 0, nothing pending, reason 0, entered from 0, its record's
--- RAX and RCX 0. What the level holds of lower levels stays.
+-- RAX and RCX 0. What the level holds of lower levels stays, and what it asks to be told of their registers (02, request 6).
 abbrev pub startedContext : Context → ℕ → ℕ → ℕ → Context
 startedContext c ip sp cr = record {
   registers = ip ∷ sp ∷ 0 ∷ cr ∷ replicate 9 0;
@@ -99,6 +99,7 @@ startedContext c ip sp cr = record {
   pending = replicate 4 0;
   secure = c .secure;
   control = noControl;
+  watch = c .watch;
 }
 
 unfoldable pub started : Shape → VirtualProcessor → ℕ → ℕ → ℕ → ℕ → VirtualProcessor

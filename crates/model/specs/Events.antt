@@ -1,4 +1,4 @@
--- The nineteen events (01, "Events"): for each its refusals, rising, and its value and effect where none applies.
+-- The twenty-one events (01, "Events"; 02, request 6): for each its refusals, rising, and its value and effect where none applies.
 -- Assumes nothing.
 use mathlib.Core.Bool.{Bool, not, cond, _&&_, _||_}
 use mathlib.Core.List.{List, [], _∷_}
@@ -12,8 +12,9 @@ use Rattle.model.specs.Entry.{highestReady, nextUp, called, returned, en
 use Rattle.model.specs.Masks.{validMask, kernelOnly, defaultMask, turnsOn, reservedSet, secureReservedSet, protectsIn, protects}
 use Rattle.model.specs.Memory.{denied, receiver, hostDenies, mbecOn, isUser}
 use Rattle.model.specs.Registers.{cr0, rflags, rcx, protectedBit, interruptBit, privateOf, sharedOf, registerOf}
-use Rattle.model.specs.State.{State, Partition, Shape, Access, Mode, processors, maxLevel, pages, isLevel, shape, vp, context, level, noLevel, activeOf, active, enabledOn, enabledAnywhere, enabledFor, mbecFor, configOf, wordOf, secureOf, mbecBit, lockBit}
-use Rattle.model.specs.Updates.{enableLevel, setConfig, setMask, fillMasks, setRegister, setTpr, setSecure, setWord, onVp, onPartition}
+use Rattle.model.specs.State.{State, Partition, Shape, Access, Mode, Watch, processors, maxLevel, pages, isLevel, shape, vp, context, level, noLevel, activeOf, active, enabledOn, enabledAnywhere, enabledFor, mbecFor, configOf, wordOf, secureOf, mbecBit, lockBit}
+use Rattle.model.specs.Updates.{enableLevel, setConfig, setMask, fillMasks, setRegister, setTpr, setSecure, setWatch, withIntercepts, withCrMask, setWord, onVp, onPartition}
+use Rattle.model.specs.Watching.{interceptReservedSet, asksRead, asksWrite, watcher}
 
 -- What an event is refused or intercepted for, and its value and next state where it is done.
 pub record Rule : Type 0 where
@@ -147,13 +148,18 @@ abbrev pub flush : State → ℕ → Mode → Rule
 flush s v mode = record { refusals = kernel mode (Refusal.TlbLocked when locked s (active s v) ∷ []); value = 0; effect = s }
 
 -- rreg v mode g r; wreg v mode g r x: 1 for r > 31, or CR0 with bit 0 clear for g > 0; 3; 4 if g > actor; 6 if g is not enabled
--- on v. Value of rreg: the register.
-abbrev pub ofLevel : State → ℕ → ℕ → List (Answer × Bool)
-ofLevel s v g = aboveMaximum s g ∷ Refusal.TargetAbove when ltb (active s v) g ∷ Refusal.NotEnabledOnProcessor when not (enabledOn s v g) ∷ []
+-- on v; 9 last, to the level that watches (02, request 6). Value of rreg: the register.
+abbrev pub watchedBy : State → ℕ → ℕ → (Watch → Bool) → Answer × Bool
+watchedBy s v g asks = let t = watcher (shape s) (vp s v) g asks in (Intercept (level t), ltb t noLevel)
+
+abbrev pub ofLevel : State → ℕ → ℕ → (Watch → Bool) → List (Answer × Bool)
+ofLevel s v g asks =
+    aboveMaximum s g ∷ Refusal.TargetAbove when ltb (active s v) g ∷ Refusal.NotEnabledOnProcessor when not (enabledOn s v g)
+    ∷ watchedBy s v g asks ∷ []
 
 abbrev pub rreg : State → ℕ → Mode → ℕ → ℕ → Rule
 rreg s v mode g r = record {
-  refusals = outOfRange g ∷ Refusal.NoSuchRegister when ltb 31 r ∷ kernel mode (ofLevel s v g);
+  refusals = outOfRange g ∷ Refusal.NoSuchRegister when ltb 31 r ∷ kernel mode (ofLevel s v g (asksRead r));
   value = registerOf (shape s) (vp s v) g r;
   effect = s;
 }
@@ -161,9 +167,28 @@ rreg s v mode g r = record {
 abbrev pub wreg : State → ℕ → Mode → ℕ → ℕ → ℕ → Rule
 wreg s v mode g r x = record {
   refusals = outOfRange g ∷ Refusal.NoSuchRegister when ltb 31 r ∷ Refusal.Cr0InRealMode when (eqb r cr0 && ltb 0 g && not (bit x protectedBit))
-      ∷ kernel mode (ofLevel s v g);
+      ∷ kernel mode (ofLevel s v g (asksWrite r (registerOf (shape s) (vp s v) g r) x));
   value = 0;
   effect = onVp s v (λ z p. setRegister z p g r x);
+}
+
+-- cri v mode word: 1 if one of the bits 25..63 is set; 4 at level 0. Sets the actor's own word (02, request 6).
+abbrev pub watchEffect : State → ℕ → (Watch → Watch) → State
+watchEffect s v change = onVp s v (λ z p. setWatch z p (activeOf p) (change (context z p (activeOf p) .watch)))
+
+abbrev pub cri : State → ℕ → Mode → ℕ → Rule
+cri s v mode word = record {
+  refusals = Refusal.ReservedBits when interceptReservedSet word ∷ kernel mode (Refusal.WatchAtLevelZero when eqb (active s v) 0 ∷ []);
+  value = 0;
+  effect = watchEffect s v (λ w. withIntercepts w word);
+}
+
+-- crm v mode n mask: 1 if n is neither 0 (CR0) nor 4 (CR4); 4 at level 0. Sets the actor's own mask for writes of that register (02, request 6).
+abbrev pub crm : State → ℕ → Mode → ℕ → ℕ → Rule
+crm s v mode n mask = record {
+  refusals = Refusal.NoSuchMask when not (eqb n 0 || eqb n 4) ∷ kernel mode (Refusal.WatchAtLevelZero when eqb (active s v) 0 ∷ []);
+  value = 0;
+  effect = watchEffect s v (λ w. withCrMask w (eqb n 4) mask);
 }
 
 -- tpr v mode class; sets the actor's own.

@@ -9,6 +9,7 @@ pub mod WellFormed  -- well-formed states
 pub mod Answers  -- answers, their numbers and values
 pub mod Entry  -- entry, call, return and interrupts on one processor
 pub mod Memory  -- the access decision
+pub mod Watching  -- which accesses to registers a higher level is told of
 pub mod Events  -- the rule of each event
 pub mod Step  -- one step, and a run
 pub mod LevelColumn  -- the level column of the listing

@@ -18,6 +18,21 @@ cr0 = 3
 abbrev pub cr4 : ℕ
 cr4 = 5
 
+abbrev pub efer : ℕ
+efer = 7
+
+abbrev pub star : ℕ
+star = 8
+
+abbrev pub lstar : ℕ
+lstar = 9
+
+abbrev pub cstar : ℕ
+cstar = 10
+
+abbrev pub sfmask : ℕ
+sfmask = 11
+
 abbrev pub dr6 : ℕ
 dr6 = 12
 
@@ -26,6 +41,9 @@ rax = 13
 
 abbrev pub rcx : ℕ
 rcx = 14
+
+abbrev pub xcr0 : ℕ
+xcr0 = 29
 
 -- CR0 bit 0 is clear in real mode; RFLAGS bit 9 is IF; CR4 bit 20 is SMEP.
 abbrev pub protectedBit : ℕ

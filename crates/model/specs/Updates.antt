@@ -8,23 +8,34 @@ use lib.ListN.{set}
 use Rattle.word.specs.Field.{put}
 use Rattle.model.specs.Arrays.{numberAt, stored}
 use Rattle.model.specs.Registers.{dr6, isPrivate}
-use Rattle.model.specs.State.{State, Context, Control, Machine, Partition, Shape, VirtualProcessor, LevelSet, level, levelSet, shape, pages, partition, isLevel, vp, context, lockBit}
+use Rattle.model.specs.State.{State, Context, Control, Machine, Partition, Shape, VirtualProcessor, LevelSet, Watch, level, levelSet, shape, pages, partition, isLevel, vp, context, lockBit}
 
 -- A context with one field changed.
 abbrev pub withRegisters : Context → List ℕ → Context
-withRegisters c rs = record { registers = rs; tpr = c .tpr; pending = c .pending; secure = c .secure; control = c .control }
+withRegisters c rs = record { registers = rs; tpr = c .tpr; pending = c .pending; secure = c .secure; control = c .control; watch = c .watch }
 
 abbrev pub withTpr : Context → ℕ → Context
-withTpr c class = record { registers = c .registers; tpr = class; pending = c .pending; secure = c .secure; control = c .control }
+withTpr c class = record { registers = c .registers; tpr = class; pending = c .pending; secure = c .secure; control = c .control; watch = c .watch }
 
 abbrev pub withPending : Context → List ℕ → Context
-withPending c ps = record { registers = c .registers; tpr = c .tpr; pending = ps; secure = c .secure; control = c .control }
+withPending c ps = record { registers = c .registers; tpr = c .tpr; pending = ps; secure = c .secure; control = c .control; watch = c .watch }
 
 abbrev pub withSecure : Context → List ℕ → Context
-withSecure c ws = record { registers = c .registers; tpr = c .tpr; pending = c .pending; secure = ws; control = c .control }
+withSecure c ws = record { registers = c .registers; tpr = c .tpr; pending = c .pending; secure = ws; control = c .control; watch = c .watch }
 
 abbrev pub withControl : Context → Control → Context
-withControl c k = record { registers = c .registers; tpr = c .tpr; pending = c .pending; secure = c .secure; control = k }
+withControl c k = record { registers = c .registers; tpr = c .tpr; pending = c .pending; secure = c .secure; control = k; watch = c .watch }
+
+abbrev pub withWatch : Context → Watch → Context
+withWatch c w = record { registers = c .registers; tpr = c .tpr; pending = c .pending; secure = c .secure; control = c .control; watch = w }
+
+-- What a level asks to be told of registers, with another intercept control word, or another mask for writes of CR4 where `four` says so, and
+-- else of CR0.
+abbrev pub withIntercepts : Watch → ℕ → Watch
+withIntercepts w word = record { intercepts = word; «cr0_mask» = w .«cr0_mask»; «cr4_mask» = w .«cr4_mask» }
+
+abbrev pub withCrMask : Watch → Bool → ℕ → Watch
+withCrMask w four mask = record { intercepts = w .intercepts; «cr0_mask» = cond four (w .«cr0_mask») mask; «cr4_mask» = cond four mask (w .«cr4_mask») }
 
 -- A processor with one field changed.
 abbrev pub withActive : VirtualProcessor → ℕ → VirtualProcessor
@@ -75,6 +86,10 @@ setPending z p l n x =
 -- Level t's secure configuration of the lower level l.
 unfoldable pub setSecure : Shape → VirtualProcessor → ℕ → ℕ → ℕ → VirtualProcessor
 setSecure z p t l w = let c = context z p t in putContext z p t (withSecure c (stored 4 (c .secure) l w))
+
+-- What level l asks to be told of registers.
+unfoldable pub setWatch : Shape → VirtualProcessor → ℕ → Watch → VirtualProcessor
+setWatch z p l w = putContext z p l (withWatch (context z p l) w)
 
 -- Level t's TLB locks are cleared, in the first n of its words and in all.
 unfoldable pub cleared : ℕ → List ℕ → List ℕ

@@ -9,6 +9,7 @@ use Rattle.model.specs.Arrays.{numberAt}
 use Rattle.model.specs.Bounded.{every, allOf}
 use Rattle.model.specs.Masks.{validMask, kernelOnly, defaultMask, turnsOn, reservedSet, secureReservedSet}
 use Rattle.model.specs.Registers.{cr0, protectedBit, privateOf}
+use Rattle.model.specs.Watching.{interceptReservedSet}
 use Rattle.model.specs.State.{State, Context, Control, Partition, Shape, VirtualProcessor, inRange, processors, maxLevel, pages, partition, inSet, isProcessor, shape, vp, context, activeOf, enabledAt, enabledFor, mbecFor, configOf, maskOf, mbecBit}
 
 -- If a then b.
@@ -37,7 +38,8 @@ neverEntered k = allOf (eqb (k .reason) 0 ∷ eqb (k .from .0) 0 ∷ eqb (k .rax
 -- What a processor holds of level l, where the partition has the level enabled as `on` tells, the processor as `enabled` does,
 -- and the partition has MBEC for it as `mbec` tells. A processor's enabled levels are within the partition's; its MBEC only
 -- where the partition has it for the setting level. TPR in range; pending vectors only 16..255 (0..15 are the low 16 bits of
--- the first word) and only at enabled levels. A level above 0 that is not enabled was never entered.
+-- the first word) and only at enabled levels. A level above 0 that is not enabled was never entered. Bits
+-- 25..63 of the intercept control word of a level above 0 are 0 (02, request 6).
 unfoldable pub wellFormedContext : ℕ → Bool → Bool → Bool → Bool → Context → Bool
 wellFormedContext l on enabled mbec fromOn c = allOf (
     (enabled implies on)
@@ -47,6 +49,7 @@ wellFormedContext l on enabled mbec fromOn c = allOf (
     ∷ eqb (field 0 16 (numberAt 4 (c .pending) 0)) 0
     ∷ (enabled || every 4 (λ i. eqb (numberAt 4 (c .pending) i) 0))
     ∷ ((ltb 0 l && not enabled) implies neverEntered (c .control))
+    ∷ (ltb 0 l implies not (interceptReservedSet (c .watch .intercepts)))
     ∷ [])
 
 -- A processor, where the partition holds x: level 0 is enabled everywhere; the active level is enabled. (That an array of four

@@ -10,7 +10,7 @@ pub enum Answer {
     Intercept(Level),
 }
 
-// A case for each condition that 01 states; specs/Answers.antt has the number of each.
+// A case for each condition that 01 and the requests of 02 state; specs/Answers.antt has the number of each.
 pub enum Refusal {
     // a line above 256 bytes
     LineTooLong,
@@ -44,10 +44,12 @@ pub enum Refusal {
     NoSuchPage,
     // a mask that is neither 0 nor has Read
     InvalidMask,
-    // a reserved bit of a configuration word is set
+    // a reserved bit of a configuration word, or of the intercept control word, is set
     ReservedBits,
     // a value for CR0 with bit 0 clear, for a level above 0
     Cr0InRealMode,
+    // crm: a mask for neither CR0 nor CR4
+    NoSuchMask,
     // user mode for anything but read, write, fetch
     UserMode,
     // call: the actor is in real mode, its CR0 bit 0 is clear
@@ -74,6 +76,8 @@ pub enum Refusal {
     TargetNotBelow,
     // protect: level 0 is active
     ProtectAtLevelZero,
+    // cri, crm: level 0 is active
+    WatchAtLevelZero,
     // enpart: the target is enabled for the partition
     EnabledForPartition,
     // envp: the target is enabled on the processor

@@ -1,4 +1,4 @@
-// The nineteen events. One that a level makes has the processor on which that level is active, the mode (0 kernel, 1 user) and
+// The twenty-one events. One that a level makes has the processor on which that level is active, the mode (0 kernel, 1 user) and
 // what the level does; one from outside has only what happens. A field holds the number as it was given: a number out of range
 // is refused by the event's rule.
 use crate::quantity::Level;
@@ -76,4 +76,12 @@ pub enum Action {
     Pstat,
     Vstat,
     Caps,
+    // The actor's own intercept control word, and its mask for writes of control register 0 or 4 (02, request 6).
+    Cri {
+        word: u64,
+    },
+    Crm {
+        control_register: u64,
+        mask: u64,
+    },
 }

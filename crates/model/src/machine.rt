@@ -44,6 +44,14 @@ pub struct Control {
     pub rcx: u64,
 }
 
+// What a level above 0 asks to be told of the registers of lower levels (02, request 6): 001's intercept control word, and its masks for
+// writes of CR0 and of CR4.
+pub struct Watch {
+    pub intercepts: u64,
+    pub cr0_mask: u64,
+    pub cr4_mask: u64,
+}
+
 // What a processor holds of one level.
 pub struct Context {
     // Registers 0 to 12. The last, DR6, is in use only where it is not shared.
@@ -54,6 +62,7 @@ pub struct Context {
     // This level's configuration of each lower level: bit 0 MBEC, bit 1 TLB lock.
     pub secure: [u64; 4],
     pub control: Control,
+    pub watch: Watch,
 }
 
 pub struct VirtualProcessor {

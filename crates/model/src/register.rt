@@ -9,11 +9,23 @@ pub const CR0: u64 = 3;
 
 pub const CR4: u64 = 5;
 
+pub const EFER: u64 = 7;
+
+pub const STAR: u64 = 8;
+
+pub const LSTAR: u64 = 9;
+
+pub const CSTAR: u64 = 10;
+
+pub const SFMASK: u64 = 11;
+
 pub const DR6: u64 = 12;
 
 pub const RAX: u64 = 13;
 
 pub const RCX: u64 = 14;
+
+pub const XCR0: u64 = 29;
 
 // Registers end at the high half of XMM0.
 pub const LAST_REGISTER: u64 = 31;
