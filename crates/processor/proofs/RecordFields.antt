@@ -15,7 +15,7 @@ use Rattle.model.specs.Arrays.{numberAt, stored}
 use Rattle.model.specs.Registers.{dr6, sharedOf}
 use Rattle.model.specs.State.{levelSet, isLevel, inSet, enabledAt}
 use Rattle.model.specs.Updates.{withActive, withEnabled, withShared}
-use Rattle.processor.specs.Record.{part, rowOf, contextOf, contextIn, vpOf, updated, wordPut}
+use Rattle.processor.specs.Record.{recordWords, levels, levelWords, part, rowOf, contextOf, contextIn, vpOf, updated, wordPut}
 use Rattle.processor.proofs.RecordWords.{part-read, part-before, part-in, context-in, row-set, row-length, within-same, within-set, within-put}
 
 -- What a store leaves of the first words, of a part, and of a word.
@@ -44,7 +44,7 @@ module _ (row : List ℕ) (k x : ℕ) where
       go true e = let q : k ≡ j = eqb-true k j e in rw q (getD-set-same row j x 0 h)
       go false e = getD-set-other row k j x 0 (λ q. eqb-false k j e (sym q))
 
-  pub row-updated : length row ≡ 26 → contextOf (set row k x) ≡ updated k x (contextOf row)
+  pub row-updated : length row ≡ levelWords → contextOf (set row k x) ≡ updated k x (contextOf row)
   unfolding contextOf
   row-updated size =
       rw (
@@ -56,15 +56,18 @@ module _ (row : List ℕ) (k x : ℕ) where
         word-set 23 (omega arith),
         word-set 24 (omega arith),
         word-set 25 (omega arith),
+        word-set 26 (omega arith),
+        word-set 27 (omega arith),
+        word-set 28 (omega arith),
       )
 
 -- A record after word k of a level's row was set to x.
-pub word-stored : (z : Shape) (ws : List ℕ) (l k x : ℕ) → length ws ≡ 126 → k < 26 → isLevel z l ≡ true → vpOf (set ws (22 + 26 * l + k) x) ≡ wordPut z (vpOf ws) l k x
+pub word-stored : (z : Shape) (ws : List ℕ) (l k x : ℕ) → length ws ≡ recordWords → k < levelWords → isLevel z l ≡ true → vpOf (set ws (levels + levelWords * l + k) x) ≡ wordPut z (vpOf ws) l k x
 unfolding contextIn
 word-stored z ws l k x size h e =
     let low = level-low z l e in
     rw (
-      within-put z l ws (set ws (22 + 26 * l + k) x) e (within-set l ws ws k x low h (within-same l ws)),
+      within-put z l ws (set ws (levels + levelWords * l + k) x) e (within-set l ws ws k x low h (within-same l ws)),
       row-set ws l k x h,
       row-updated (rowOf ws l) k x (row-length ws l size low),
       context-in z ws l e,
@@ -73,19 +76,19 @@ word-stored z ws l k x size h e =
 -- The words that belong to no level.
 pub row-kept : (ws : List ℕ) (i x l : ℕ) → i < 22 → rowOf (set ws i x) l ≡ rowOf ws l
 unfolding rowOf
-row-kept ws i x l h = part-before ws (22 + 26 * l) 26 i x (omega arith)
+row-kept ws i x l h = part-before ws (levels + levelWords * l) levelWords i x (omega arith)
 
 contexts-kept : (ws : List ℕ) (i x : ℕ) → i < 22 → vpOf (set ws i x) .contexts ≡ vpOf ws .contexts
 unfolding vpOf contextIn
 contexts-kept ws i x h =
     rw (row-kept ws i x 0 h, row-kept ws i x 1 h, row-kept ws i x 2 h, row-kept ws i x 3 h)
 
-pub active-set : (ws : List ℕ) (l : ℕ) → length ws ≡ 126 → vpOf (set ws 0 l) ≡ withActive (vpOf ws) l
+pub active-set : (ws : List ℕ) (l : ℕ) → length ws ≡ recordWords → vpOf (set ws 0 l) ≡ withActive (vpOf ws) l
 unfolding vpOf
 active-set ws l size =
     rw (getD-set-same ws 0 l 0 (omega arith), getD-set-other ws 0 1 l 0 (λ q. omega arith), part-before ws 2 20 0 l (omega arith), contexts-kept ws 0 l (omega arith))
 
-pub enabled-set : (ws : List ℕ) (x : ℕ) → length ws ≡ 126 → vpOf (set ws 1 x) ≡ withEnabled (vpOf ws) (levelSet x)
+pub enabled-set : (ws : List ℕ) (x : ℕ) → length ws ≡ recordWords → vpOf (set ws 1 x) ≡ withEnabled (vpOf ws) (levelSet x)
 unfolding vpOf
 enabled-set ws x size =
     rw (getD-set-same ws 1 x 0 (omega arith), getD-set-other ws 1 0 x 0 (λ q. omega arith), part-before ws 2 20 1 x (omega arith), contexts-kept ws 1 x (omega arith))

@@ -1,5 +1,5 @@
 -- The definitions of crate `model` that read or change one word of a level, by the words of the record: private registers, TPR,
--- pending vectors, secure words and control records (01, "The bench model"). Assumes nothing.
+-- pending vectors, secure words, control records and watched registers (01, "The bench model"). Assumes nothing.
 use mathlib.Core.Path.{_≡_, refl, _∙_}
 use mathlib.Core.List.{List}
 use Prim.Native.Nat.{ℕ, _+_, _≤_, _<_}
@@ -11,18 +11,19 @@ use Rattle.model.specs.declared.machine.Context.{Context}
 use Rattle.model.specs.declared.machine.Control.{Control}
 use Rattle.model.specs.declared.machine.Shape.{Shape}
 use Rattle.model.specs.declared.machine.VirtualProcessor.{VirtualProcessor}
+use Rattle.model.specs.declared.machine.Watch.{Watch}
 use Rattle.model.proofs.Four.{below-four}
 use Rattle.model.specs.Arrays.{numberAt, stored}
 use Rattle.model.specs.Registers.{privateOf}
 use Rattle.model.specs.State.{context, noContext, lockBit}
-use Rattle.model.specs.Updates.{withPending, withSecure, setPrivate, setSecure, cleared, unlocked}
-use Rattle.processor.specs.Record.{part, contextOf, vpOf, wordIn, updated, altered, wordPut, lockCleared, controlSet}
+use Rattle.model.specs.Updates.{withPending, withSecure, setPrivate, setSecure, setWatch, cleared, unlocked}
+use Rattle.processor.specs.Record.{intercepts, cr0Mask, cr4Mask, levelWords, part, contextOf, vpOf, wordIn, updated, altered, wordPut, lockCleared, controlSet}
 use Rattle.processor.proofs.RecordWords.{part-read, field-read, altered-again}
 
 -- Words that are read.
 module _ (z : Shape) (ws : List ℕ) (l : ℕ) where
   -- An array in the row.
-  array-read : (f : Context → List ℕ) (o n : ℕ) → o + n ≤ 26 → f noContext ≡ replicate n 0 → ((row : List ℕ) → f (contextOf row) ≡ part o n row)
+  array-read : (f : Context → List ℕ) (o n : ℕ) → o + n ≤ levelWords → f noContext ≡ replicate n 0 → ((row : List ℕ) → f (contextOf row) ≡ part o n row)
       → (i k : ℕ) → i < n → k ≡ o + i → wordIn z ws l k ≡ numberAt n (f (context z (vpOf ws) l)) i
   unfolding numberAt
   array-read f o n fits none parts i k h at =
@@ -55,6 +56,14 @@ module _ (z : Shape) (ws : List ℕ) (l : ℕ) where
       let rcx = d ∙ field-read (λ c. c .control .rcx) 25 (omega arith) refl (λ row. refl) z ws l in
       λ i. record { reason = reason i; from = record { 0 = from i }; rax = rax i; rcx = rcx i }
 
+  pub watch-read : (w : Watch) → w .intercepts ≡ wordIn z ws l intercepts → w .«cr0_mask» ≡ wordIn z ws l cr0Mask → w .«cr4_mask» ≡ wordIn z ws l cr4Mask → w ≡ context z (vpOf ws) l .watch
+  unfolding contextOf
+  watch-read w a b c =
+      let word = a ∙ field-read (λ c. c .watch .intercepts) intercepts (omega arith) refl (λ row. refl) z ws l in
+      let cr0 = b ∙ field-read (λ c. c .watch .«cr0_mask») cr0Mask (omega arith) refl (λ row. refl) z ws l in
+      let cr4 = c ∙ field-read (λ c. c .watch .«cr4_mask») cr4Mask (omega arith) refl (λ row. refl) z ws l in
+      λ i. record { intercepts = word i; «cr0_mask» = cr0 i; «cr4_mask» = cr4 i }
+
 -- A word that is stored: which field of the context it is.
 module _ (z : Shape) (p : VirtualProcessor) (l : ℕ) where
   pub private-put : (r x : ℕ) → r < 13 → wordPut z p l r x ≡ setPrivate z p l r x
@@ -68,6 +77,9 @@ module _ (z : Shape) (p : VirtualProcessor) (l : ℕ) where
         ne-eqb r 23 (λ e. omega arith),
         ne-eqb r 24 (λ e. omega arith),
         ne-eqb r 25 (λ e. omega arith),
+        ne-eqb r intercepts (λ e. omega arith),
+        ne-eqb r cr0Mask (λ e. omega arith),
+        ne-eqb r cr4Mask (λ e. omega arith),
       )
 
   pub pending-put : (i x : ℕ) → i < 4 → wordPut z p l (14 + i) x ≡ altered z p l (λ c. withPending c (stored 4 (c .pending) i x))
@@ -91,6 +103,14 @@ pub control-stored : (z : Shape) (p q r s t : VirtualProcessor) (l : ℕ) (k : C
 unfolding stored
 control-stored z p q r s t l k size e f g h =
     four-altered z p q r s t l (updated 22 (k .reason)) (updated 23 (k .from .0)) (updated 24 (k .rax)) (updated 25 (k .rcx)) size e f g h
+
+-- The three words of what a level asks to be told of registers, stored one after the other.
+pub watch-stored : (z : Shape) (p q r s : VirtualProcessor) (l : ℕ) (w : Watch) → length (p .contexts) ≡ 4
+    → q ≡ wordPut z p l intercepts (w .intercepts) → r ≡ wordPut z q l cr0Mask (w .«cr0_mask») → s ≡ wordPut z r l cr4Mask (w .«cr4_mask»)
+    → s ≡ setWatch z p l w
+unfolding stored setWatch
+watch-stored z p q r s l w size e f g =
+    rw (g, f, e, altered-again z p l (updated intercepts (w .intercepts)) (updated cr0Mask (w .«cr0_mask»)) size, altered-again z p l (λ x. updated cr0Mask (w .«cr0_mask») (updated intercepts (w .intercepts) x)) (updated cr4Mask (w .«cr4_mask»)) size)
 
 -- The four locks of a level, cleared one after the other.
 pub locks-cleared : (z : Shape) (p q r s t : VirtualProcessor) (l : ℕ) → length (p .contexts) ≡ 4

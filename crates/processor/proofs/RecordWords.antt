@@ -15,7 +15,7 @@ use Rattle.model.specs.declared.machine.Shape.{Shape}
 use Rattle.model.specs.declared.machine.VirtualProcessor.{VirtualProcessor}
 use Rattle.model.specs.State.{level, levelSet, isLevel, context, noContext, pastContext}
 use Rattle.model.specs.Updates.{withContexts, putContext}
-use Rattle.processor.specs.Record.{Within, part, rowOf, contextOf, contextIn, vpOf, wordIn, altered}
+use Rattle.processor.specs.Record.{recordWords, levels, levelWords, Within, part, rowOf, contextOf, contextIn, vpOf, wordIn, altered}
 
 -- Parts of words: what is read of one, and what a store leaves of it.
 module _ (ws : List ℕ) (from n : ℕ) where
@@ -48,34 +48,34 @@ unfolding context
 context-none z p l h = rw h
 
 -- Word k of a level's row.
-pub row-word : (ws : List ℕ) (l k : ℕ) → k < 26 → getD (rowOf ws l) k 0 ≡ getD ws (22 + 26 * l + k) 0
+pub row-word : (ws : List ℕ) (l k : ℕ) → k < levelWords → getD (rowOf ws l) k 0 ≡ getD ws (levels + levelWords * l + k) 0
 unfolding rowOf
-row-word ws l k h = part-read ws (22 + 26 * l) 26 k h
+row-word ws l k h = part-read ws (levels + levelWords * l) levelWords k h
 
-pub row-length : (ws : List ℕ) (l : ℕ) → length ws ≡ 126 → l < 4 → length (rowOf ws l) ≡ 26
+pub row-length : (ws : List ℕ) (l : ℕ) → length ws ≡ recordWords → l < 4 → length (rowOf ws l) ≡ levelWords
 unfolding rowOf
-row-length ws l e h = length-take 26 (drop (22 + 26 * l) ws) ∙ omega (arith, length-drop (22 + 26 * l) ws)
+row-length ws l e h = length-take levelWords (drop (levels + levelWords * l) ws) ∙ omega (arith, length-drop (levels + levelWords * l) ws)
 
 pub within-same : (l : ℕ) (ws : List ℕ) → Within l ws ws
 within-same l ws = record { active-same = refl; enabled-same = refl; shared-same = refl; rows-same = λ j h n. refl }
 
-pub within-set : (l : ℕ) (ws ws′ : List ℕ) (k x : ℕ) → l < 4 → k < 26 → Within l ws ws′ → Within l ws (set ws′ (22 + 26 * l + k) x)
+pub within-set : (l : ℕ) (ws ws′ : List ℕ) (k x : ℕ) → l < 4 → k < levelWords → Within l ws ws′ → Within l ws (set ws′ (levels + levelWords * l + k) x)
 unfolding rowOf
 within-set l ws ws′ k x h i w = record {
-  active-same = getD-set-other ws′ (22 + 26 * l + k) 0 x 0 (λ e. omega arith) ∙ w .active-same;
-  enabled-same = getD-set-other ws′ (22 + 26 * l + k) 1 x 0 (λ e. omega arith) ∙ w .enabled-same;
-  shared-same = part-past ws′ 2 20 (22 + 26 * l + k) x (omega arith) ∙ w .shared-same;
+  active-same = getD-set-other ws′ (levels + levelWords * l + k) 0 x 0 (λ e. omega arith) ∙ w .active-same;
+  enabled-same = getD-set-other ws′ (levels + levelWords * l + k) 1 x 0 (λ e. omega arith) ∙ w .enabled-same;
+  shared-same = part-past ws′ 2 20 (levels + levelWords * l + k) x (omega arith) ∙ w .shared-same;
   rows-same = λ j b n. other j (ltb j l) refl n ∙ w .rows-same j b n;
 }
   where
-    other : (j : ℕ) (t : Bool) → ltb j l ≡ t → (j ≡ l → ⊥) → part (22 + 26 * j) 26 (set ws′ (22 + 26 * l + k) x) ≡ part (22 + 26 * j) 26 ws′
-    other j true e n = part-past ws′ (22 + 26 * j) 26 (22 + 26 * l + k) x (omega (arith, ltb-true j l e))
-    other j false e n = part-before ws′ (22 + 26 * j) 26 (22 + 26 * l + k) x (omega (arith, ltb-false j l e, n))
+    other : (j : ℕ) (t : Bool) → ltb j l ≡ t → (j ≡ l → ⊥) → part (levels + levelWords * j) levelWords (set ws′ (levels + levelWords * l + k) x) ≡ part (levels + levelWords * j) levelWords ws′
+    other j true e n = part-past ws′ (levels + levelWords * j) levelWords (levels + levelWords * l + k) x (omega (arith, ltb-true j l e))
+    other j false e n = part-before ws′ (levels + levelWords * j) levelWords (levels + levelWords * l + k) x (omega (arith, ltb-false j l e, n))
 
 -- The row itself.
-pub row-set : (ws : List ℕ) (l k x : ℕ) → k < 26 → rowOf (set ws (22 + 26 * l + k) x) l ≡ set (rowOf ws l) k x
+pub row-set : (ws : List ℕ) (l k x : ℕ) → k < levelWords → rowOf (set ws (levels + levelWords * l + k) x) l ≡ set (rowOf ws l) k x
 unfolding rowOf
-row-set ws l k x h = part-in ws (22 + 26 * l) 26 k x h
+row-set ws l k x h = part-in ws (levels + levelWords * l) levelWords k x h
 
 -- A record whose words differ in one row has another context there.
 pub within-put : (z : Shape) (l : ℕ) (ws ws′ : List ℕ) → isLevel z l ≡ true → Within l ws ws′
@@ -101,12 +101,12 @@ put-same z p l = go (isLevel z l)
     go false = refl
 
 -- A field of a context that is word k of its level.
-pub field-read : (f : Context → ℕ) (k : ℕ) → k < 26 → f noContext ≡ 0 → ((row : List ℕ) → f (contextOf row) ≡ getD row k 0)
+pub field-read : (f : Context → ℕ) (k : ℕ) → k < levelWords → f noContext ≡ 0 → ((row : List ℕ) → f (contextOf row) ≡ getD row k 0)
     → (z : Shape) (ws : List ℕ) (l : ℕ) → wordIn z ws l k ≡ f (context z (vpOf ws) l)
 unfolding contextIn
 field-read f k h n c z ws l = go (isLevel z l) refl
   where
-    go : (b : Bool) → isLevel z l ≡ b → cond b (getD ws (22 + 26 * l + k) 0) 0 ≡ f (context z (vpOf ws) l)
+    go : (b : Bool) → isLevel z l ≡ b → cond b (getD ws (levels + levelWords * l + k) 0) 0 ≡ f (context z (vpOf ws) l)
     go true e = rw (context-in z ws l e, c (rowOf ws l), row-word ws l k h)
     go false e = rw (context-none z (vpOf ws) l e) (sym n)
 

@@ -1,7 +1,8 @@
--- A virtual processor's record in 126 words, as code lends and changes it (01, "The bench model"). Word 0 is the active level,
--- word 1 the set of the levels enabled on the processor, words 2 to 21 are the shared registers 12 to 31, and a row of 26 words
+-- A virtual processor's record in 138 words, as code lends and changes it (01, "The bench model"). Word 0 is the active level,
+-- word 1 the set of the levels enabled on the processor, words 2 to 21 are the shared registers 12 to 31, and a row of 29 words
 -- for each level follows: registers 0 to 12, the TPR class, four words of pending vectors, the configuration of four lower
--- levels, and the control record (reason, level left, RAX, RCX). src/record.rt has the same constants. Assumes nothing.
+-- levels, the control record (reason, level left, RAX, RCX), and what it asks to be told of registers (its intercept control word, its
+-- masks for CR0 and CR4). src/record.rt has the same constants. Assumes nothing.
 use mathlib.Core.Bool.{cond}
 use mathlib.Core.List.{List, [], _∷_, _++_}
 use mathlib.Core.Path.{_≡_}
@@ -13,13 +14,14 @@ use Rattle.model.specs.declared.machine.Context.{Context}
 use Rattle.model.specs.declared.machine.Control.{Control}
 use Rattle.model.specs.declared.machine.Shape.{Shape}
 use Rattle.model.specs.declared.machine.VirtualProcessor.{VirtualProcessor}
+use Rattle.model.specs.declared.machine.Watch.{Watch}
 use Rattle.model.specs.Arrays.{numberAt, stored}
 use Rattle.model.specs.State.{level, levelSet, isLevel, context, lockBit}
 use Rattle.model.specs.Updates.{withControl, putContext, setSecure}
 
 -- The words of a record.
 abbrev pub recordWords : ℕ
-recordWords = 126
+recordWords = 138
 
 -- The active level, and the set of the enabled levels.
 abbrev pub active : ℕ
@@ -40,7 +42,7 @@ abbrev pub levels : ℕ
 levels = 22
 
 abbrev pub levelWords : ℕ
-levelWords = 26
+levelWords = 29
 
 -- Offsets in a row, after the private registers.
 abbrev pub privateRegisters : ℕ
@@ -67,6 +69,15 @@ savedRax = 24
 abbrev pub savedRcx : ℕ
 savedRcx = 25
 
+abbrev pub intercepts : ℕ
+intercepts = 26
+
+abbrev pub cr0Mask : ℕ
+cr0Mask = 27
+
+abbrev pub cr4Mask : ℕ
+cr4Mask = 28
+
 -- n words from a place on.
 abbrev pub part : ℕ → ℕ → List ℕ → List ℕ
 part place n ws = take n (drop place ws)
@@ -82,12 +93,13 @@ contextOf row = record {
   pending = part pending 4 row;
   secure = part secure 4 row;
   control = record { reason = getD row reason 0; from = level (getD row from 0); rax = getD row savedRax 0; rcx = getD row savedRcx 0 };
+  watch = record { intercepts = getD row intercepts 0; «cr0_mask» = getD row cr0Mask 0; «cr4_mask» = getD row cr4Mask 0 };
 }
 
 unfoldable pub contextIn : List ℕ → ℕ → Context
 contextIn ws l = contextOf (rowOf ws l)
 
--- The record that the words stand for. No two arrays of 126 words stand for one record (`record-one` of
+-- The record that the words stand for. No two arrays of 138 words stand for one record (`record-one` of
 -- proofs/RecordOne.antt).
 unfoldable pub vpOf : List ℕ → VirtualProcessor
 vpOf ws = record {
@@ -118,6 +130,11 @@ updated k x c = record {
     rax = cond (eqb k savedRax) x (c .control .rax);
     rcx = cond (eqb k savedRcx) x (c .control .rcx);
   };
+  watch = record {
+    intercepts = cond (eqb k intercepts) x (c .watch .intercepts);
+    «cr0_mask» = cond (eqb k cr0Mask) x (c .watch .«cr0_mask»);
+    «cr4_mask» = cond (eqb k cr4Mask) x (c .watch .«cr4_mask»);
+  };
 }
 
 -- A context changed and put back, and the same where the change is the word at an offset; beyond M nothing changes.
@@ -139,10 +156,10 @@ lockCleared z p t l = setSecure z p t l (put lockBit 1 (numberAt 4 (context z p 
 abbrev pub controlSet : Shape → VirtualProcessor → ℕ → Control → VirtualProcessor
 controlSet z p l k = putContext z p l (withControl (context z p l) k)
 
--- The row of a level that starts, with the configuration words that it holds of four levels.
-abbrev pub startedRow : ℕ → ℕ → ℕ → ℕ → ℕ → ℕ → ℕ → List ℕ
-startedRow ip sp cr first second third fourth =
-    ip ∷ sp ∷ 0 ∷ cr ∷ replicate 14 0 ++ first ∷ second ∷ third ∷ fourth ∷ replicate 4 0
+-- The row of a level that starts, with the configuration words that it holds of four levels and what it asks to be told of registers.
+abbrev pub startedRow : ℕ → ℕ → ℕ → ℕ → ℕ → ℕ → ℕ → Watch → List ℕ
+startedRow ip sp cr first second third fourth w =
+    ip ∷ sp ∷ 0 ∷ cr ∷ replicate 14 0 ++ first ∷ second ∷ third ∷ fourth ∷ replicate 4 0 ++ w .intercepts ∷ w .«cr0_mask» ∷ w .«cr4_mask» ∷ []
 
 -- The words ws′ differ from ws in level l's row alone.
 pub record Within (l : ℕ) (ws ws′ : List ℕ) : Type 0 where

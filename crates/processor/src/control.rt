@@ -8,8 +8,10 @@ ghost use Rattle.model.specs.State.{context};
 ghost use Rattle.processor.specs.Record.{Within, recordWords, levelEnabled, rowOf, vpOf, controlSet, startedRow};
 use crate::record;
 use crate::record::Record;
+use crate::watch::watch_of;
 use model::machine::Control;
 use model::machine::Shape;
+use model::machine::Watch;
 use model::quantity::Level;
 use model::register;
 use model::set::is_level;
@@ -72,9 +74,17 @@ fn enable(vp: &mut Record, level: Level)
     words[record::ENABLED] = record::with_bit(words[record::ENABLED], level.0, 1);
 }
 
-// The row of a level that starts: RIP, RSP and CR0 as given, the configuration of lower levels as it was, and 0 elsewhere.
-fn started_row(initial: InitialContext, zero: u64, one: u64, two: u64, three: u64) -> Row
-    ensures { λ r. ⌜ r ≡ startedRow (initial .rip) (initial .rsp) (initial .cr0) zero one two three ⌝ }
+// The row of a level that starts: RIP, RSP and CR0 as given, the configuration of lower levels and what it asks to be told of their
+// registers as they were, and 0 elsewhere.
+fn started_row(
+    initial: InitialContext,
+    zero: u64,
+    one: u64,
+    two: u64,
+    three: u64,
+    watch: Watch,
+) -> Row
+    ensures { λ r. ⌜ r ≡ startedRow (initial .rip) (initial .rsp) (initial .cr0) zero one two three watch ⌝ }
 {
     let mut row = [0; record::LEVEL_WORDS as usize];
     row[register::RIP as usize] = initial.rip;
@@ -84,11 +94,14 @@ fn started_row(initial: InitialContext, zero: u64, one: u64, two: u64, three: u6
     row[record::SECURE as usize + 1] = one;
     row[record::SECURE as usize + 2] = two;
     row[record::SECURE as usize + 3] = three;
+    row[record::INTERCEPTS as usize] = watch.intercepts;
+    row[record::CR0_MASK as usize] = watch.cr0_mask;
+    row[record::CR4_MASK as usize] = watch.cr4_mask;
     row
 }
 
 // envp: makes the target enabled, with RIP, RSP and CR0 as given, its other private registers 0, TPR 0, nothing pending, and an
-// empty control record. What it holds of lower levels stays.
+// empty control record. What it holds of lower levels stays, and what it asks to be told of their registers.
 pub fn start(shape: Shape, vp: &mut Record, target: Level, initial: InitialContext)
     ensures { λ _. ⌜ vpOf (now (vp .exit))
         ≡ started shape (vpOf (now (vp .entry))) (target .0) (initial .rip) (initial .rsp) (initial .cr0) ⌝ }
@@ -100,6 +113,7 @@ pub fn start(shape: Shape, vp: &mut Record, target: Level, initial: InitialConte
             record::level_word(shape, vp, target, record::SECURE + 1),
             record::level_word(shape, vp, target, record::SECURE + 2),
             record::level_word(shape, vp, target, record::SECURE + 3),
+            watch_of(shape, vp, target),
         );
         set_row(vp, target, row);
         enable(vp, target);

@@ -1,5 +1,6 @@
 -- `control::set_row` meets its contract. The loop's invariant is `Filled`, and the measure is the number of words left. Assumes nothing.
 use Prim.Native.Nat.{_-_}
+use Rattle.processor.specs.Record.{levelWords}
 use Rattle.processor.proofs.RecordRows.{Filled, filled-start, filled-more, filled-done}
 use borrow.Author.Needs.{needs}
 use Rattle.processor.proofs.control.set_row.Statement.{statement}
@@ -9,7 +10,7 @@ abbrev Inv-loop : tie.InvT-loop
 Inv-loop row words₀ number start offset₀ words offset = Filled number row words₀ words offset
 
 abbrev μ-loop : tie.MeasureT-loop
-μ-loop row words₀ number start offset₀ words offset = 26 - offset
+μ-loop row words₀ number start offset₀ words offset = levelWords - offset
 
 loop-holds : tie.Need-loop-holds Inv-loop μ-loop
 loop-holds c = filled-start _ _ _ (search needs)

@@ -1,0 +1,31 @@
+// What a level asks to be told of the registers of lower levels (02, request 6): its intercept control word, and its masks for writes of
+// CR0 and of CR4.
+ghost use mathlib.Core.Path.{_≡_};
+ghost use Rattle.model.specs.State.{context};
+ghost use Rattle.model.specs.Updates.{setWatch};
+ghost use Rattle.processor.specs.Record.{vpOf};
+use crate::record;
+use crate::record::Record;
+use model::machine::Shape;
+use model::machine::Watch;
+use model::quantity::Level;
+
+// The word and the masks of a level; all 0 beyond M.
+pub fn watch_of(shape: Shape, vp: &Record, level: Level) -> Watch
+    ensures { λ r. ⌜ r ≡ context shape (vpOf (now (vp .entry))) (level .0) .watch ⌝ }
+{
+    Watch {
+        intercepts: record::level_word(shape, vp, level, record::INTERCEPTS),
+        cr0_mask: record::level_word(shape, vp, level, record::CR0_MASK),
+        cr4_mask: record::level_word(shape, vp, level, record::CR4_MASK),
+    }
+}
+
+// Sets the word and the masks of a level; beyond M nothing changes.
+pub fn set_watch(shape: Shape, vp: &mut Record, level: Level, watch: Watch)
+    ensures { λ _. ⌜ vpOf (now (vp .exit)) ≡ setWatch shape (vpOf (now (vp .entry))) (level .0) watch ⌝ }
+{
+    record::set_level_word(shape, vp, level, record::INTERCEPTS, watch.intercepts);
+    record::set_level_word(shape, vp, level, record::CR0_MASK, watch.cr0_mask);
+    record::set_level_word(shape, vp, level, record::CR4_MASK, watch.cr4_mask);
+}
