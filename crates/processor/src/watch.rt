@@ -3,12 +3,26 @@
 ghost use mathlib.Core.Path.{_≡_};
 ghost use Rattle.model.specs.State.{context};
 ghost use Rattle.model.specs.Updates.{setWatch};
+ghost use Rattle.model.specs.Watching.{interceptReservedSet};
 ghost use Rattle.processor.specs.Record.{vpOf};
 use crate::record;
 use crate::record::Record;
 use model::machine::Shape;
 use model::machine::Watch;
 use model::quantity::Level;
+use word::field::take;
+use word::intercept_control::INTERCEPTS as NAMED_BITS;
+
+// How many bits of an intercept control word are reserved.
+const RESERVED_BITS: u32 = 39;
+
+// Is one of the bits 25..63 of an intercept control word set?
+pub fn intercept_reserved_set(word: u64) -> bool
+    ensures { λ r. ⌜ r ≡ interceptReservedSet word ⌝ }
+{
+    let high = take(word, NAMED_BITS as u32, RESERVED_BITS);
+    !(high == 0)
+}
 
 // The word and the masks of a level; all 0 beyond M.
 pub fn watch_of(shape: Shape, vp: &Record, level: Level) -> Watch

@@ -10,14 +10,14 @@ use Rattle.model.specs.declared.machine.Setup.{Setup}
 use Rattle.model.specs.State.{State, pastVp}
 use Rattle.partition.proofs.PartitionWords.{partition-one}
 use Rattle.processor.proofs.RecordOne.{record-one}
-use Rattle.processor.specs.Record.{vpOf}
+use Rattle.processor.specs.Record.{recordWords, vpOf}
 use Rattle.model.proofs.Four.{four-at}
 use Rattle.state.specs.Lent.{machineOf, lent}
 
--- Four records of 126 words.
+-- Four records, each of all its words.
 pub record Records (vps : List (List ℕ)) : Type 0 where
   pub four : length vps ≡ 4
-  pub each : (v : ℕ) → v < 4 → length (getD vps v []) ≡ 126
+  pub each : (v : ℕ) → v < 4 → length (getD vps v []) ≡ recordWords
 
 -- The setup of a state.
 abbrev setupIn : State → Setup

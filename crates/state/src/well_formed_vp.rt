@@ -31,6 +31,8 @@ use processor::record;
 use processor::record::Record;
 use processor::record_registers::private_of;
 use processor::secure::secure_of;
+use processor::watch::intercept_reserved_set;
+use processor::watch::watch_of;
 use word::field::has_bit;
 use word::field::take;
 use word::registers::SecureConfig;
@@ -119,6 +121,7 @@ fn well_formed_context(shape: Shape, levels: &Levels, vp: &Record, level: Level)
     let pending = row_word(shape, vp, level, record::PENDING);
     let low = take(pending, 0, FIRST_VECTOR as u32);
     let none = none_pending(shape, vp, level);
+    let reserved = intercept_reserved_set(watch_of(shape, vp, level).intercepts);
     (!enabled | on)
         & (!((0 < level.0) & enabled) | entered)
         & configured
@@ -126,6 +129,7 @@ fn well_formed_context(shape: Shape, levels: &Levels, vp: &Record, level: Level)
         & (low == 0)
         & (enabled | none)
         & (!((0 < level.0) & !enabled) | never)
+        & (!(0 < level.0) | !reserved)
 }
 
 // Is a processor well formed, but for real mode? Of the partition only the levels are read, not the masks.

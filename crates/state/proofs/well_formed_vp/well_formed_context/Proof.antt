@@ -12,13 +12,16 @@ use Rattle.state.proofs.well_formed_vp.well_formed_context.Tie as tie
 returns : tie.Need-returns
 unfolding wellFormedContext
 returns c =
-    let vectors = c .before .before .before in
+    let watch = c .before .before .before in
+    let vectors = watch .before .before .before in
     let words = vectors .before .before in
     let control = words .before .before .before .before in
     let sets = control .before .before in
     let a = sets .before .before .before .args in
     rw (
-      c .before .before .none-pending .ensures,
+      watch .intercept-reserved-set .ensures,
+      watch .before .watch-of .ensures,
+      watch .before .before .none-pending .ensures,
       vectors .take .ensures,
       vectors .before .row-word2 .ensures ∙ pending-read (a .shape) (now (a .vp)) (a .level .0) 0 (omega arith),
       words .row-word .ensures ∙ tpr-read (a .shape) (now (a .vp)) (a .level .0),
@@ -39,4 +42,4 @@ well-formed-context-spec =
     (tie.spec
     (λ c κs. search needs) (λ c κs. search needs) (λ c κs. search needs) (λ c κs. search needs) (λ c κs. search needs)
     (λ c κs. search needs) (λ c κs. search needs) (λ c κs. search needs) (λ c κs. search needs) (λ c κs. search needs) (λ c. search needs)
-    (λ c κs. search needs) (λ c κs. search needs) returns)
+    (λ c κs. search needs) (λ c κs. search needs) (λ c κs. search needs) (λ c κs. search needs) returns)
