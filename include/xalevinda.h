@@ -25,7 +25,7 @@
 /* No sheet or verdict of xalevinda_explain is longer, its line feeds included. */
 #define XALEVINDA_LONGEST_EXPLANATION 261
 /* How many words of 64 bits a machine takes, and how many xalevinda_step shows. */
-#define XALEVINDA_MACHINE_WORDS 836
+#define XALEVINDA_MACHINE_WORDS 884
 #define XALEVINDA_SHOWN_WORDS 3
 
 #ifdef __cplusplus

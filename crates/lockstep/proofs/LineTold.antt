@@ -23,39 +23,39 @@ use Rattle.model.specs.declared.event.Event.{Event}
 use Rattle.model.specs.declared.machine.Setup.{Setup}
 use Rattle.model.specs.declared.quantity.Level.{Level}
 use Rattle.model.specs.declared.quantity.Processor.{Processor}
-use Rattle.processor.specs.Record.{part}
+use Rattle.processor.specs.Record.{recordWords, part}
 use Rattle.script.specs.declared.Parsed.the-variants as said
 use Rattle.state.specs.Lent.{lent}
 use Rattle.lockstep.specs.Lockstep.{replyBy, steppedBy}
 use Rattle.lockstep.specs.LockstepParts.{AnsweredIn, replyOf}
-use Rattle.lockstep.specs.MachineWords.{PartSizes, flat, lentWords, partsOf, recordsIn, setupIn, stateIn}
+use Rattle.lockstep.specs.MachineWords.{machineWords, wordsAt, fourthAt, thirdAt, secondAt, recordsAt, PartSizes, flat, lentWords, partsOf, recordsIn, setupIn, stateIn}
 use Rattle.lockstep.specs.ReasonNumbers.{reasonNumber}
 use Rattle.lockstep.specs.declared.Reply.{Reply}
 use Rattle.lockstep.proofs.StateStored.{state-read, state-words}
 use Rattle.lockstep.proofs.StoredWords.{part-length, parts-stored, put-back}
 
 -- The words of the pages came back from a step that they were lent to.
-came-back : (ws words : List ℕ) (k : ℕ) → 772 + k ≤ length ws → length words ≡ k → putMid 772 k ws words ≡ sets ws 772 words
+came-back : (ws words : List ℕ) (k : ℕ) → wordsAt + k ≤ length ws → length words ≡ k → putMid wordsAt k ws words ≡ sets ws wordsAt words
 came-back ws words k h e =
-    rw (drop-drop k 772 ws, ← e)
-    (sym (append-assoc (take 772 ws) words (drop (772 + length words) ws)) ∙ sym (sets-eq words ws 772 (omega arith)))
+    rw (drop-drop k wordsAt ws, ← e)
+    (sym (append-assoc (take wordsAt ws) words (drop (wordsAt + length words) ws)) ∙ sym (sets-eq words ws wordsAt (omega arith)))
 
-module _ (ws : List ℕ) (room : 836 ≤ length ws) (e : Event) (a : Answer) (setup : Setup) (levels masks : List ℕ) (vps : List (List ℕ))
+module _ (ws : List ℕ) (room : machineWords ≤ length ws) (e : Event) (a : Answer) (setup : Setup) (levels masks : List ℕ) (vps : List (List ℕ))
     (end : ℕ) (setup-is : setup ≡ setupIn ws) (levels-is : levels ≡ part 6 6 ws) (masks-is : masks ≡ part 12 256 ws)
-    (vps-is : vps ≡ recordsIn ws) (end-is : end ≡ 772 + lentWords ws) (levels′ masks′ : List ℕ) (vps′ : List (List ℕ))
-    (words′ : List ℕ) (sizes : PartSizes levels′ masks′ vps′) (kept : length words′ ≡ length (midOf 772 (end - 772) ws))
+    (vps-is : vps ≡ recordsIn ws) (end-is : end ≡ wordsAt + lentWords ws) (levels′ masks′ : List ℕ) (vps′ : List (List ℕ))
+    (words′ : List ℕ) (sizes : PartSizes levels′ masks′ vps′) (kept : length words′ ≡ length (midOf wordsAt (end - wordsAt) ws))
     (done : record { answer = a; next = lent setup levels′ masks′ vps′ words′ }
-    ≡ step (lent setup levels masks vps (midOf 772 (end - 772) ws)) e)
-    (after : List ℕ) (stored : after ≡ sets (putMid 772 (end - 772) ws words′) 6 (levels′ ++ masks′ ++ flat vps′))
+    ≡ step (lent setup levels masks vps (midOf wordsAt (end - wordsAt) ws)) e)
+    (after : List ℕ) (stored : after ≡ sets (putMid wordsAt (end - wordsAt) ws words′) 6 (levels′ ++ masks′ ++ flat vps′))
   where
-    count : end - 772 ≡ lentWords ws
+    count : end - wordsAt ≡ lentWords ws
     count = omega arith
 
     few : lentWords ws ≤ 64
     few = omega arith
 
     words-length : length words′ ≡ lentWords ws
-    words-length = kept ∙ rw count (length-take-le (lentWords ws) (drop 772 ws) (omega (arith, length-drop 772 ws)))
+    words-length = kept ∙ rw count (length-take-le (lentWords ws) (drop wordsAt ws) (omega (arith, length-drop wordsAt ws)))
 
     abbrev next : State
     next = lent (setupIn ws) levels′ masks′ vps′ words′
@@ -64,7 +64,7 @@ module _ (ws : List ℕ) (room : 836 ≤ length ws) (e : Event) (a : Answer) (se
     unfolding stateIn
     event-done = rw (setup-is, levels-is, masks-is, vps-is, count) at done
 
-    stored-words : after ≡ sets (sets ws 772 words′) 6 (levels′ ++ masks′ ++ flat vps′)
+    stored-words : after ≡ sets (sets ws wordsAt words′) 6 (levels′ ++ masks′ ++ flat vps′)
     stored-words =
         stored
         ∙ ap (λ (w : List ℕ). sets w 6 (levels′ ++ masks′ ++ flat vps′))
@@ -99,11 +99,11 @@ module _ (ws : List ℕ) (room : 836 ≤ length ws) (e : Event) (a : Answer) (se
         record { reply = is ∙ told-reply v here on there; words = told-words; state = told-state }
 
 -- The words of the state that the words stand for are these.
-module _ (ws : List ℕ) (room : 836 ≤ length ws) where
-  at : (place n : ℕ) → place + n ≤ 836 → sets ws place (part place n ws) ≡ ws
+module _ (ws : List ℕ) (room : machineWords ≤ length ws) where
+  at : (place n : ℕ) → place + n ≤ machineWords → sets ws place (part place n ws) ≡ ws
   at place n h = put-back ws place n (omega arith)
 
-  size : (place n : ℕ) → place + n ≤ 836 → length (part place n ws) ≡ n
+  size : (place n : ℕ) → place + n ≤ machineWords → length (part place n ws) ≡ n
   size place n h = part-length ws place n (omega arith)
 
   pub same-words : sets ws 6 (partsOf (stateIn ws)) ≡ ws
@@ -112,21 +112,21 @@ module _ (ws : List ℕ) (room : 836 ≤ length ws) where
       let sizes : PartSizes (part 6 6 ws) (part 12 256 ws) (recordsIn ws) = record {
         levels-length = size 6 6 (omega arith);
         masks-length = size 12 256 (omega arith);
-        first-length = size 268 126 (omega arith);
-        second-length = size 394 126 (omega arith);
-        third-length = size 520 126 (omega arith);
-        fourth-length = size 646 126 (omega arith);
+        first-length = size recordsAt recordWords (omega arith);
+        second-length = size secondAt recordWords (omega arith);
+        third-length = size thirdAt recordWords (omega arith);
+        fourth-length = size fourthAt recordWords (omega arith);
       } in
-      sym (state-words ws (part 6 6 ws) (part 12 256 ws) (recordsIn ws) (part 772 (lentWords ws) ws) sizes (setupIn ws))
-      ∙ ap (λ (w : List ℕ). sets w 6 (part 6 6 ws ++ part 12 256 ws ++ flat (recordsIn ws))) (at 772 (lentWords ws) (omega arith))
+      sym (state-words ws (part 6 6 ws) (part 12 256 ws) (recordsIn ws) (part wordsAt (lentWords ws) ws) sizes (setupIn ws))
+      ∙ ap (λ (w : List ℕ). sets w 6 (part 6 6 ws ++ part 12 256 ws ++ flat (recordsIn ws))) (at wordsAt (lentWords ws) (omega arith))
       ∙ sym
-      (parts-stored ws (part 6 6 ws) (part 12 256 ws) (part 268 126 ws) (part 394 126 ws) (part 520 126 ws) (part 646 126 ws)
+      (parts-stored ws (part 6 6 ws) (part 12 256 ws) (part recordsAt recordWords ws) (part secondAt recordWords ws) (part thirdAt recordWords ws) (part fourthAt recordWords ws)
       (sizes .levels-length) (sizes .masks-length) (sizes .first-length) (sizes .second-length) (sizes .third-length))
-      ∙ rw (at 6 6 (omega arith), at 12 256 (omega arith), at 268 126 (omega arith), at 394 126 (omega arith), at 520 126 (omega arith))
-      (at 646 126 (omega arith))
+      ∙ rw (at 6 6 (omega arith), at 12 256 (omega arith), at recordsAt recordWords (omega arith), at secondAt recordWords (omega arith), at thirdAt recordWords (omega arith))
+      (at fourthAt recordWords (omega arith))
 
 -- A malformed line: the words stay.
-pub malformed-told : (ws : List ℕ) → 836 ≤ length ws → (refusal : Refusal) (r : Reply) → r ≡ replyOf (Refused refusal) (level 0) → AnsweredIn (steppedBy ws (said.Malformed refusal)) r ws
+pub malformed-told : (ws : List ℕ) → machineWords ≤ length ws → (refusal : Refusal) (r : Reply) → r ≡ replyOf (Refused refusal) (level 0) → AnsweredIn (steppedBy ws (said.Malformed refusal)) r ws
 malformed-told ws room refusal r is = record {
   reply =
       is

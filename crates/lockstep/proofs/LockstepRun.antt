@@ -12,16 +12,16 @@ use Rattle.script.specs.EventForms.{lineEvent}
 use Rattle.lockstep.specs.Lockstep.{Stepped, opened, stepped, steppedBy, steppedIn}
 use Rattle.lockstep.specs.LockstepClaims.{InStep, InStepWithScript, Ran, SameWords, recordsFrom}
 use Rattle.lockstep.specs.declared.Reply.{Reply}
-use Rattle.lockstep.specs.MachineWords.{stateIn}
+use Rattle.lockstep.specs.MachineWords.{machineWords, stateIn}
 use Rattle.lockstep.proofs.LineTold.{same-words}
 
 pub same-words-stay : SameWords
 same-words-stay ws p room e = rw e (same-words ws room)
 
 -- What a line gives where there is room.
-answered-line : (ws line shown : List ℕ) → 836 ≤ length ws → 3 ≤ length shown → stepped ws line shown ≡ steppedBy ws (lineEvent line)
+answered-line : (ws line shown : List ℕ) → machineWords ≤ length ws → 3 ≤ length shown → stepped ws line shown ≡ steppedBy ws (lineEvent line)
 unfolding stepped steppedIn
-answered-line ws line shown room place = rw (le-ltb (length shown) 3 place, le-ltb (length ws) 836 room)
+answered-line ws line shown room place = rw (le-ltb (length shown) 3 place, le-ltb (length ws) machineWords room)
 
 run-records : {ws : List ℕ} {lines : List (List ℕ)} {replies : List Reply} → Ran ws lines replies
     → (number : ℕ) → recordsFrom number replies ≡ laterRecords number (stateIn ws) lines
@@ -40,7 +40,7 @@ in-step ws lines replies run number = run-records run number
 pub in-step-with-script : InStepWithScript
 unfolding opened
 in-step-with-script ws ws′ first lines replies f room says good next run =
-    let begun : stateIn ws′ ≡ fresh f = next ∙ rw (le-ltb (length ws) 836 room, says, good) in
+    let begun : stateIn ws′ ≡ fresh f = next ∙ rw (le-ltb (length ws) machineWords room, says, good) in
     ap (λ (l : List ℕ). firstDone ++ l)
     (run-records run 1 ∙ ap (λ (s : State). laterRecords 1 s lines) begun)
     ∙ rw (says, good)

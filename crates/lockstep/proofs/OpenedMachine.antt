@@ -21,7 +21,7 @@ use Rattle.processor.specs.Record.{vpOf}
 use Rattle.state.proofs.FreshMachine.{fresh-machine}
 use Rattle.state.specs.Lent.{lent, setupOf}
 use Rattle.lockstep.specs.LockstepParts.{OpenedAs, setupSaid}
-use Rattle.lockstep.specs.MachineWords.{PartSizes, flagWord, flat, lentWords, partsOf, setupIn, setupWords, stateIn, wordsOf}
+use Rattle.lockstep.specs.MachineWords.{machineWords, wordsAt, PartSizes, flagWord, flat, lentWords, partsOf, setupIn, setupWords, stateIn, wordsOf}
 use Rattle.lockstep.proofs.StateStored.{part-stored, state-read, state-words}
 use Rattle.lockstep.proofs.StoredWords.{behind}
 
@@ -61,7 +61,7 @@ module _ (f : FirstLine) (h : admissible f ≡ true) where
   unfolding fresh
   setup-said = rw (flag-back (f .«dr6_shared») shared-known, flag-back (f .smep) smep-known)
 
-  module _ (ws : List ℕ) (room : 836 ≤ length ws) where
+  module _ (ws : List ℕ) (room : machineWords ≤ length ws) where
     abbrev begun : List ℕ
     begun = sets ws 0 (setupSaid f)
 
@@ -104,7 +104,7 @@ module _ (f : FirstLine) (h : admissible f ≡ true) where
         words-length = ap length (zeros-taken (f .pages) 64 (few-pages f h)) ∙ length-replicate (f .pages) 0
 
         pub machine-opened : (after : List ℕ)
-            → after ≡ sets (sets begun 772 words) 6 (levels ++ masks ++ flat (replicate 4 vp)) → OpenedAs f ws after
+            → after ≡ sets (sets begun wordsAt words) 6 (levels ++ masks ++ flat (replicate 4 vp)) → OpenedAs f ws after
         unfolding wordsOf
         machine-opened after stored = record {
           words =

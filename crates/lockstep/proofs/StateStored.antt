@@ -7,9 +7,9 @@ use lib.ListN.{getD, length, length-append, set, take, drop}
 use lib.Seq.{drop-at, getD-set-other, length-sets, length-take-le, set-comm, sets, sets-eq, take-at}
 use Rattle.model.specs.declared.machine.Setup.{Setup}
 use Rattle.processor.proofs.RecordWords.{part-before, part-past}
-use Rattle.processor.specs.Record.{part}
+use Rattle.processor.specs.Record.{recordWords, part}
 use Rattle.state.specs.Lent.{lent, machineOf}
-use Rattle.lockstep.specs.MachineWords.{PartSizes, flat, lentWords, partsOf, setupIn, stateIn}
+use Rattle.lockstep.specs.MachineWords.{machineWords, wordsAt, fourthAt, thirdAt, secondAt, recordsAt, PartSizes, flat, lentWords, partsOf, setupIn, stateIn}
 use Rattle.lockstep.proofs.StoredWords.{behind, parts-stored}
 use Rattle.lockstep.proofs.WordsBack.{parts-back}
 
@@ -88,94 +88,94 @@ module _ (ws : List ℕ) (levels masks : List ℕ) (vps : List (List ℕ)) (word
 
   -- The words of the pages were stored first, and the other parts before them.
   pub state-words : (setup : Setup)
-      → sets (sets ws 772 words) 6 parts ≡ sets ws 6 (partsOf (lent setup levels masks vps words))
+      → sets (sets ws wordsAt words) 6 parts ≡ sets ws 6 (partsOf (lent setup levels masks vps words))
   state-words setup =
-      let size : 6 + length parts ≡ 772 = omega (arith, length-append levels masks, length-append (levels ++ masks) (flat vps), flat-length) in
-      before parts ws 6 772 words (omega arith)
-      ∙ behind parts ws 6 772 words size
+      let size : 6 + length parts ≡ wordsAt = omega (arith, length-append levels masks, length-append (levels ++ masks) (flat vps), flat-length) in
+      before parts ws 6 wordsAt words (omega arith)
+      ∙ behind parts ws 6 wordsAt words size
       ∙ ap (sets ws 6) (sym (parts-back setup levels masks vps words sizes))
 
   -- The words of the setup stay, and each part is read back.
   abbrev nested : List ℕ
-  nested = sets (sets (sets (sets (sets (sets (sets ws 772 words) 6 levels) 12 masks) 268 a) 394 b) 520 c) 646 d
+  nested = sets (sets (sets (sets (sets (sets (sets ws wordsAt words) 6 levels) 12 masks) recordsAt a) secondAt b) thirdAt c) fourthAt d
 
   word-same : (i : ℕ) → i < 6 → getD nested i 0 ≡ getD ws i 0
   word-same i h =
-      word-kept d _ i 646 (omega arith)
-      ∙ word-kept c _ i 520 (omega arith)
-      ∙ word-kept b _ i 394 (omega arith)
-      ∙ word-kept a _ i 268 (omega arith)
+      word-kept d _ i fourthAt (omega arith)
+      ∙ word-kept c _ i thirdAt (omega arith)
+      ∙ word-kept b _ i secondAt (omega arith)
+      ∙ word-kept a _ i recordsAt (omega arith)
       ∙ word-kept masks _ i 12 (omega arith)
       ∙ word-kept levels _ i 6 (omega arith)
-      ∙ word-kept words ws i 772 (omega arith)
+      ∙ word-kept words ws i wordsAt (omega arith)
 
-  module _ (room : 836 ≤ length ws) (k : ℕ) (few : k ≤ 64) (words-length : length words ≡ k) where
-    sized : (l l′ : List ℕ) (j : ℕ) → 836 ≤ length l → 836 ≤ length (sets l j l′)
+  module _ (room : machineWords ≤ length ws) (k : ℕ) (few : k ≤ 64) (words-length : length words ≡ k) where
+    sized : (l l′ : List ℕ) (j : ℕ) → machineWords ≤ length l → machineWords ≤ length (sets l j l′)
     sized l l′ j h = omega (arith, length-sets l j l′)
 
-    w0 : 836 ≤ length (sets ws 772 words)
-    w0 = sized ws words 772 room
+    w0 : machineWords ≤ length (sets ws wordsAt words)
+    w0 = sized ws words wordsAt room
 
-    w1 : 836 ≤ length (sets (sets ws 772 words) 6 levels)
+    w1 : machineWords ≤ length (sets (sets ws wordsAt words) 6 levels)
     w1 = sized _ levels 6 w0
 
-    w2 : 836 ≤ length (sets (sets (sets ws 772 words) 6 levels) 12 masks)
+    w2 : machineWords ≤ length (sets (sets (sets ws wordsAt words) 6 levels) 12 masks)
     w2 = sized _ masks 12 w1
 
-    w3 : 836 ≤ length (sets (sets (sets (sets ws 772 words) 6 levels) 12 masks) 268 a)
-    w3 = sized _ a 268 w2
+    w3 : machineWords ≤ length (sets (sets (sets (sets ws wordsAt words) 6 levels) 12 masks) recordsAt a)
+    w3 = sized _ a recordsAt w2
 
-    w4 : 836 ≤ length (sets (sets (sets (sets (sets ws 772 words) 6 levels) 12 masks) 268 a) 394 b)
-    w4 = sized _ b 394 w3
+    w4 : machineWords ≤ length (sets (sets (sets (sets (sets ws wordsAt words) 6 levels) 12 masks) recordsAt a) secondAt b)
+    w4 = sized _ b secondAt w3
 
-    w5 : 836 ≤ length (sets (sets (sets (sets (sets (sets ws 772 words) 6 levels) 12 masks) 268 a) 394 b) 520 c)
-    w5 = sized _ c 520 w4
+    w5 : machineWords ≤ length (sets (sets (sets (sets (sets (sets ws wordsAt words) 6 levels) 12 masks) recordsAt a) secondAt b) thirdAt c)
+    w5 = sized _ c thirdAt w4
 
-    fourth-same : part 646 126 nested ≡ d
-    fourth-same = part-stored 646 126 d _ (sizes .fourth-length) (omega (arith, w5))
+    fourth-same : part fourthAt recordWords nested ≡ d
+    fourth-same = part-stored fourthAt recordWords d _ (sizes .fourth-length) (omega (arith, w5))
 
-    third-same : part 520 126 nested ≡ c
-    third-same = part-kept 520 126 d _ 646 (omega arith) ∙ part-stored 520 126 c _ (sizes .third-length) (omega (arith, w4))
+    third-same : part thirdAt recordWords nested ≡ c
+    third-same = part-kept thirdAt recordWords d _ fourthAt (omega arith) ∙ part-stored thirdAt recordWords c _ (sizes .third-length) (omega (arith, w4))
 
-    second-same : part 394 126 nested ≡ b
+    second-same : part secondAt recordWords nested ≡ b
     second-same =
-        part-kept 394 126 d _ 646 (omega arith)
-        ∙ part-kept 394 126 c _ 520 (omega arith)
-        ∙ part-stored 394 126 b _ (sizes .second-length) (omega (arith, w3))
+        part-kept secondAt recordWords d _ fourthAt (omega arith)
+        ∙ part-kept secondAt recordWords c _ thirdAt (omega arith)
+        ∙ part-stored secondAt recordWords b _ (sizes .second-length) (omega (arith, w3))
 
-    first-same : part 268 126 nested ≡ a
+    first-same : part recordsAt recordWords nested ≡ a
     first-same =
-        part-kept 268 126 d _ 646 (omega arith)
-        ∙ part-kept 268 126 c _ 520 (omega arith)
-        ∙ part-kept 268 126 b _ 394 (omega arith)
-        ∙ part-stored 268 126 a _ (sizes .first-length) (omega (arith, w2))
+        part-kept recordsAt recordWords d _ fourthAt (omega arith)
+        ∙ part-kept recordsAt recordWords c _ thirdAt (omega arith)
+        ∙ part-kept recordsAt recordWords b _ secondAt (omega arith)
+        ∙ part-stored recordsAt recordWords a _ (sizes .first-length) (omega (arith, w2))
 
     masks-same : part 12 256 nested ≡ masks
     masks-same =
-        part-kept 12 256 d _ 646 (omega arith)
-        ∙ part-kept 12 256 c _ 520 (omega arith)
-        ∙ part-kept 12 256 b _ 394 (omega arith)
-        ∙ part-kept 12 256 a _ 268 (omega arith)
+        part-kept 12 256 d _ fourthAt (omega arith)
+        ∙ part-kept 12 256 c _ thirdAt (omega arith)
+        ∙ part-kept 12 256 b _ secondAt (omega arith)
+        ∙ part-kept 12 256 a _ recordsAt (omega arith)
         ∙ part-stored 12 256 masks _ (sizes .masks-length) (omega (arith, w1))
 
     levels-same : part 6 6 nested ≡ levels
     levels-same =
-        part-kept 6 6 d _ 646 (omega arith)
-        ∙ part-kept 6 6 c _ 520 (omega arith)
-        ∙ part-kept 6 6 b _ 394 (omega arith)
-        ∙ part-kept 6 6 a _ 268 (omega arith)
+        part-kept 6 6 d _ fourthAt (omega arith)
+        ∙ part-kept 6 6 c _ thirdAt (omega arith)
+        ∙ part-kept 6 6 b _ secondAt (omega arith)
+        ∙ part-kept 6 6 a _ recordsAt (omega arith)
         ∙ part-kept 6 6 masks _ 12 (omega arith)
         ∙ part-stored 6 6 levels _ (sizes .levels-length) (omega (arith, w0))
 
-    words-same : part 772 k nested ≡ words
+    words-same : part wordsAt k nested ≡ words
     words-same =
-        part-behind 772 k d _ 646 (omega (arith, sizes .fourth-length))
-        ∙ part-behind 772 k c _ 520 (omega (arith, sizes .third-length))
-        ∙ part-behind 772 k b _ 394 (omega (arith, sizes .second-length))
-        ∙ part-behind 772 k a _ 268 (omega (arith, sizes .first-length))
-        ∙ part-behind 772 k masks _ 12 (omega arith)
-        ∙ part-behind 772 k levels _ 6 (omega arith)
-        ∙ part-stored 772 k words ws words-length (omega arith)
+        part-behind wordsAt k d _ fourthAt (omega (arith, sizes .fourth-length))
+        ∙ part-behind wordsAt k c _ thirdAt (omega (arith, sizes .third-length))
+        ∙ part-behind wordsAt k b _ secondAt (omega (arith, sizes .second-length))
+        ∙ part-behind wordsAt k a _ recordsAt (omega (arith, sizes .first-length))
+        ∙ part-behind wordsAt k masks _ 12 (omega arith)
+        ∙ part-behind wordsAt k levels _ 6 (omega arith)
+        ∙ part-stored wordsAt k words ws words-length (omega arith)
 
     setup-same : setupIn nested ≡ setupIn ws
     setup-same =
@@ -188,12 +188,12 @@ module _ (ws : List ℕ) (levels masks : List ℕ) (vps : List (List ℕ)) (word
           word-same 5 (omega arith),
         )
 
-    pub state-read : k ≡ lentWords ws → stateIn (sets (sets ws 772 words) 6 parts) ≡ lent (setupIn ws) levels masks vps words
+    pub state-read : k ≡ lentWords ws → stateIn (sets (sets ws wordsAt words) 6 parts) ≡ lent (setupIn ws) levels masks vps words
     unfolding stateIn machineOf
     state-read e =
         let count : lentWords nested ≡ k = ap (λ (P : ℕ). min P 64) (word-same 2 (omega arith)) ∙ sym e in
         ap stateIn
-        (sym (parts-stored (sets ws 772 words) levels masks a b c d (sizes .levels-length) (sizes .masks-length) (sizes .first-length) (sizes .second-length)
+        (sym (parts-stored (sets ws wordsAt words) levels masks a b c d (sizes .levels-length) (sizes .masks-length) (sizes .first-length) (sizes .second-length)
         (sizes .third-length)))
         ∙ same-lent setup-same levels-same masks-same first-same second-same third-same fourth-same
-        (ap (λ (n : ℕ). part 772 n nested) count ∙ words-same)
+        (ap (λ (n : ℕ). part wordsAt n nested) count ∙ words-same)

@@ -1,12 +1,13 @@
 -- Laws of words that are stored into others from a place on. Assumes nothing.
 use mathlib.Core.List.{List, [], _∷_, _++_, append-nil}
+use Rattle.lockstep.specs.MachineWords.{fourthAt, thirdAt, secondAt, recordsAt}
 use mathlib.Core.Path.{_≡_, sym, ap, _∙_}
 use Prim.Native.Nat.{ℕ, _+_, _≤_, _<_}
 use native.Mathlib.Numerals.{add-one}
 use native.Mathlib.Omega.{arith}
 use lib.ListN.{length, length-append, length-drop, length-take, getD, set, take, drop, drop-of-length-le, take-append-drop}
 use lib.Seq.{length-take-le, sets, sets-eq, take-add, take-suc}
-use Rattle.processor.specs.Record.{part}
+use Rattle.processor.specs.Record.{recordWords, part}
 use Rattle.script.proofs.StoredTexts.{sets-append}
 
 -- One word more.
@@ -46,15 +47,15 @@ behind first buffer at place second e =
 
 -- The parts of a machine, stored one behind the other.
 module _ (ws levels masks a b c d : List ℕ) (levels-length : length levels ≡ 6) (masks-length : length masks ≡ 256)
-    (a-length : length a ≡ 126) (b-length : length b ≡ 126) (c-length : length c ≡ 126)
+    (a-length : length a ≡ recordWords) (b-length : length b ≡ recordWords) (c-length : length c ≡ recordWords)
   where
     pub parts-stored :
-        sets (sets (sets (sets (sets (sets ws 6 levels) 12 masks) 268 a) 394 b) 520 c) 646 d
+        sets (sets (sets (sets (sets (sets ws 6 levels) 12 masks) recordsAt a) secondAt b) thirdAt c) fourthAt d
         ≡ sets ws 6 (levels ++ masks ++ (a ++ b ++ c ++ d))
     parts-stored =
         let front = sets (sets ws 6 levels) 12 masks in
-        ap (λ (w : List ℕ). sets (sets w 520 c) 646 d) (behind a front 268 394 b (omega arith))
-        ∙ ap (λ (w : List ℕ). sets w 646 d) (behind (a ++ b) front 268 520 c (omega (arith, length-append a b)))
-        ∙ behind (a ++ b ++ c) front 268 646 d (omega (arith, length-append a b, length-append (a ++ b) c))
-        ∙ ap (λ (w : List ℕ). sets w 268 (a ++ b ++ c ++ d)) (behind levels ws 6 12 masks (omega arith))
-        ∙ behind (levels ++ masks) ws 6 268 (a ++ b ++ c ++ d) (omega (arith, length-append levels masks))
+        ap (λ (w : List ℕ). sets (sets w thirdAt c) fourthAt d) (behind a front recordsAt secondAt b (omega arith))
+        ∙ ap (λ (w : List ℕ). sets w fourthAt d) (behind (a ++ b) front recordsAt thirdAt c (omega (arith, length-append a b)))
+        ∙ behind (a ++ b ++ c) front recordsAt fourthAt d (omega (arith, length-append a b, length-append (a ++ b) c))
+        ∙ ap (λ (w : List ℕ). sets w recordsAt (a ++ b ++ c ++ d)) (behind levels ws 6 12 masks (omega arith))
+        ∙ behind (levels ++ masks) ws 6 recordsAt (a ++ b ++ c ++ d) (omega (arith, length-append levels masks))

@@ -8,7 +8,7 @@ use lib.Seq.{append-snoc, take-add, take-all, take-suc}
 use Rattle.model.specs.declared.machine.Setup.{Setup}
 use Rattle.partition.specs.PartitionView.{partitionOf}
 use Rattle.processor.proofs.RecordWords.{row-length}
-use Rattle.processor.specs.Record.{contextIn, contextOf, part, rowOf, vpOf, vpsOf}
+use Rattle.processor.specs.Record.{recordWords, levels, levelWords, contextIn, contextOf, part, rowOf, vpOf, vpsOf}
 use Rattle.state.specs.Lent.{lent, machineOf}
 use Rattle.lockstep.specs.MachineWords.{PartSizes, contextWords, flat, levelsOf, partsOf, recordOf, recordsOf, rowsOf}
 
@@ -26,7 +26,7 @@ module _ (ws : List ℕ) where
   all n e = append-nil (take n ws) ∙ take-all n ws (omega arith)
 
 -- The row of a level.
-context-back : (row : List ℕ) → length row ≡ 26 → contextWords (contextOf row) ≡ row
+context-back : (row : List ℕ) → length row ≡ levelWords → contextWords (contextOf row) ≡ row
 unfolding contextWords contextOf
 context-back row e =
     simp append-assoc
@@ -37,23 +37,26 @@ context-back row e =
     ∙ one row 23 _ (omega arith)
     ∙ one row 24 _ (omega arith)
     ∙ one row 25 _ (omega arith)
-    ∙ all row 26 e)
+    ∙ one row 26 _ (omega arith)
+    ∙ one row 27 _ (omega arith)
+    ∙ one row 28 _ (omega arith)
+    ∙ all row levelWords e)
 
 -- The record of a processor.
-rows-back : (ws : List ℕ) → length ws ≡ 126
+rows-back : (ws : List ℕ) → length ws ≡ recordWords
     → getD ws 0 0 ∷ getD ws 1 0 ∷ part 2 20 ws ++ (rowOf ws 0 ++ (rowOf ws 1 ++ (rowOf ws 2 ++ (rowOf ws 3 ++ [])))) ≡ ws
 unfolding rowOf
 rows-back ws e =
     one ws 0 _ (omega arith)
     ∙ one ws 1 _ (omega arith)
     ∙ more ws 2 20 _
-    ∙ more ws 22 26 _
-    ∙ more ws 48 26 _
-    ∙ more ws 74 26 _
-    ∙ more ws 100 26 _
-    ∙ all ws 126 e
+    ∙ more ws levels levelWords _
+    ∙ more ws (levels + levelWords * 1) levelWords _
+    ∙ more ws (levels + levelWords * 2) levelWords _
+    ∙ more ws (levels + levelWords * 3) levelWords _
+    ∙ all ws recordWords e
 
-pub record-back : (ws : List ℕ) → length ws ≡ 126 → recordOf (vpOf ws) ≡ ws
+pub record-back : (ws : List ℕ) → length ws ≡ recordWords → recordOf (vpOf ws) ≡ ws
 unfolding recordOf vpOf rowsOf contextIn
 record-back ws e = rw (row 0 (omega arith), row 1 (omega arith), row 2 (omega arith), row 3 (omega arith)) (rows-back ws e)
   where

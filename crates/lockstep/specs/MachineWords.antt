@@ -34,7 +34,8 @@ hostMaskAt = 4
 abbrev pub smepAt : ℕ
 smepAt = 5
 
--- Where the parts begin that a step may change: six words of the levels, 256 masks, four records, and the words of 64 pages.
+-- Where the parts begin that a step may change: six words of the levels, 256 masks, the first of four records, each of the others, and the words of 64
+-- pages.
 abbrev pub levelsAt : ℕ
 levelsAt = 6
 
@@ -44,12 +45,21 @@ masksAt = 12
 abbrev pub recordsAt : ℕ
 recordsAt = 268
 
+abbrev pub secondAt : ℕ
+secondAt = 406
+
+abbrev pub thirdAt : ℕ
+thirdAt = 544
+
+abbrev pub fourthAt : ℕ
+fourthAt = 682
+
 abbrev pub wordsAt : ℕ
-wordsAt = 772
+wordsAt = 820
 
 -- How many words a machine takes.
 abbrev pub machineWords : ℕ
-machineWords = 836
+machineWords = 884
 
 -- The words of the levels, and the masks.
 abbrev pub levelCount : ℕ
@@ -116,7 +126,8 @@ contextWords c =
     c .registers
     ++ c .tpr ∷ c .pending
     ++ c .secure
-    ++ c .control .reason ∷ c .control .from .0 ∷ c .control .rax ∷ c .control .rcx ∷ []
+    ++ c .control .reason ∷ c .control .from .0 ∷ c .control .rax ∷ c .control .rcx
+    ∷ c .watch .intercepts ∷ c .watch .«cr0_mask» ∷ c .watch .«cr4_mask» ∷ []
 
 unfoldable pub rowsOf : List Context → List ℕ
 rowsOf [] = []

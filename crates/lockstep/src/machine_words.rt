@@ -43,10 +43,10 @@ const THIRD_RECORD: usize = SECOND_RECORD + RECORD_WORDS;
 
 const FOURTH_RECORD: usize = THIRD_RECORD + RECORD_WORDS;
 
-pub(crate) const WORDS: usize = 772;
+pub(crate) const WORDS: usize = FOURTH_RECORD + RECORD_WORDS;
 
 // How many words a machine takes, with those of 64 pages.
-pub(crate) const MACHINE_WORDS: usize = 836;
+pub(crate) const MACHINE_WORDS: usize = 884;
 
 const MOST_PAGES: u64 = 64;
 

@@ -1,5 +1,6 @@
 -- `lockstep::machine_words::record_in` meets its contract: the words of the part fill the array. Assumes nothing.
 use mathlib.Core.Path.{_≡_, refl, _∙_}
+use Rattle.processor.specs.Record.{recordWords}
 use Prim.Native.Nat.{_+_, _-_}
 use native.Mathlib.Omega.{arith}
 use borrow.Author.Needs.{needs}
@@ -10,8 +11,8 @@ use Rattle.lockstep.proofs.machine_words.record_in.Tie as tie
 returns : tie.Need-returns
 returns c =
     let a = c .before .before .before .before .before .args in
-    let size : a .place + 126 - a .place ≡ 126 = omega arith in
-    (rw size at (c .before .store-words .ensures)) ∙ part-filled (a .machine .now) (a .place) 126 (omega arith) _ refl
+    let size : a .place + recordWords - a .place ≡ recordWords = omega arith in
+    (rw size at (c .before .store-words .ensures)) ∙ part-filled (a .machine .now) (a .place) recordWords (omega arith) _ refl
 
 pub record-in-spec : {M : Type 1} → statement M
 record-in-spec =
