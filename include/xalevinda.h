@@ -73,7 +73,7 @@ enum xalevinda_reason {
     XALEVINDA_REASON_NO_SUCH_REGISTER = 29,           /* a register above 31 */
     XALEVINDA_REASON_NO_SUCH_PAGE = 30,               /* p is not one of the pages */
     XALEVINDA_REASON_INVALID_MASK = 31,               /* a mask that is neither 0 nor has Read */
-    XALEVINDA_REASON_RESERVED_BITS = 32,              /* a reserved bit of a configuration word is set */
+    XALEVINDA_REASON_RESERVED_BITS = 32,              /* a reserved bit of a configuration or intercept control word is set */
     XALEVINDA_REASON_CR0_IN_REAL_MODE = 33,           /* a value for CR0 with bit 0 clear, for a level above 0 */
     XALEVINDA_REASON_USER_MODE = 34,                  /* user mode for anything but read, write, fetch */
     XALEVINDA_REASON_CALL_IN_REAL_MODE = 35,          /* call: the actor is in real mode, its CR0 bit 0 is clear */
@@ -101,7 +101,9 @@ enum xalevinda_reason {
     XALEVINDA_REASON_TLB_LOCKED = 57,                 /* flush: a level above the actor holds a TLB lock on it */
     XALEVINDA_REASON_NO_READY_VECTOR = 58,            /* ack: no vector is ready */
     XALEVINDA_REASON_INTERRUPT_FLAG_CLEAR = 59,       /* ack: RFLAGS bit 9 is clear */
-    XALEVINDA_REASON_TARGET_GUARDED = 60              /* envp: the target is enabled on a processor, and the actor is below it */
+    XALEVINDA_REASON_TARGET_GUARDED = 60,             /* envp: the target is enabled on a processor, and the actor is below it */
+    XALEVINDA_REASON_NO_SUCH_MASK = 61,               /* crm: a mask for neither CR0 nor CR4 */
+    XALEVINDA_REASON_WATCH_AT_LEVEL_ZERO = 62         /* cri, crm: level 0 is active */
 };
 
 /* The words that xalevinda_step shows. */

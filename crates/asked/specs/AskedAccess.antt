@@ -1,7 +1,7 @@
 -- The access that a line asks for (01, "Events"; 02, request 3). Assumes nothing.
 use Prim.Native.Nat.{ℕ}
 use Rattle.model.specs.declared.event.Action.{Action}
-use Rattle.model.specs.declared.event.Action.the-variants.{Enpart, Envp, Call, Ret, Read, Write, Fetch, Protect, Config, Secure, Flush, Rreg, Wreg, Tpr, Ack, Pstat, Vstat, Caps}
+use Rattle.model.specs.declared.event.Action.the-variants.{Enpart, Envp, Call, Ret, Read, Write, Fetch, Protect, Config, Secure, Flush, Rreg, Wreg, Tpr, Ack, Pstat, Vstat, Caps, Cri, Crm}
 use Rattle.model.specs.declared.event.Event.the-variants.{Made, Int}
 use Rattle.model.specs.declared.quantity.Access.the-variants as Access
 use Rattle.model.specs.declared.quantity.Processor.{Processor}
@@ -30,6 +30,8 @@ askedOf v mode Ack = asked.Nothing
 askedOf v mode Pstat = asked.Nothing
 askedOf v mode Vstat = asked.Nothing
 askedOf v mode Caps = asked.Nothing
+askedOf v mode (Cri word) = asked.Nothing
+askedOf v mode (Crm n mask) = asked.Nothing
 
 abbrev pub askedBy : Parsed → Asked
 askedBy (parsed.Malformed r) = asked.Nothing

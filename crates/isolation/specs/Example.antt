@@ -16,12 +16,12 @@ use Rattle.model.specs.declared.machine.VirtualProcessor.{VirtualProcessor}
 use Rattle.model.specs.declared.quantity.Page.{Page}
 use Rattle.model.specs.declared.quantity.Processor.{Processor}
 use Rattle.model.specs.Registers.{privateOf}
-use Rattle.model.specs.State.{State, level, levelSet, shape, vp, wordOf, noControl}
+use Rattle.model.specs.State.{State, level, levelSet, shape, vp, wordOf, noControl, noWatch}
 use Rattle.model.specs.Step.{answers, final}
 use Rattle.isolation.specs.Isolation.{Isolated, quiet}
 
 abbrev pub contextOf : ℕ → ℕ → Context
-contextOf rip rsp = record { registers = rip ∷ rsp ∷ 0 ∷ 1 ∷ replicate 9 0; tpr = 0; pending = replicate 4 0; secure = replicate 4 0; control = noControl }
+contextOf rip rsp = record { registers = rip ∷ rsp ∷ 0 ∷ 1 ∷ replicate 9 0; tpr = 0; pending = replicate 4 0; secure = replicate 4 0; control = noControl; watch = noWatch }
 
 -- A processor at level 0: the set of its enabled levels, RIP of level 1 and RSP of level 2.
 abbrev pub processorWith : ℕ → ℕ → ℕ → VirtualProcessor

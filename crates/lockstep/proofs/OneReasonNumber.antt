@@ -56,6 +56,8 @@ refusals =
     refusal.NoReadyVector ∷
     refusal.InterruptFlagClear ∷
     refusal.TargetGuarded ∷
+    refusal.NoSuchMask ∷
+    refusal.WatchAtLevelZero ∷
     []
 
 abbrev readBack : ℕ → Refusal
@@ -107,6 +109,8 @@ read-back refusal.TlbLocked = refl
 read-back refusal.NoReadyVector = refl
 read-back refusal.InterruptFlagClear = refl
 read-back refusal.TargetGuarded = refl
+read-back refusal.NoSuchMask = refl
+read-back refusal.WatchAtLevelZero = refl
 
 pub reason-one : (r r′ : Refusal) → refusalReason r ≡ refusalReason r′ → r ≡ r′
 reason-one r r′ e = sym (read-back r) ∙ ap readBack e ∙ read-back r′

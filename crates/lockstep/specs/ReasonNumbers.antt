@@ -68,6 +68,8 @@ refusalReason refusal.TlbLocked = 57
 refusalReason refusal.NoReadyVector = 58
 refusalReason refusal.InterruptFlagClear = 59
 refusalReason refusal.TargetGuarded = 60
+refusalReason refusal.NoSuchMask = 61
+refusalReason refusal.WatchAtLevelZero = 62
 
 -- The number of the reason for an answer.
 abbrev pub reasonNumber : Answer → ℕ

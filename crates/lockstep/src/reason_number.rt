@@ -65,6 +65,8 @@ pub fn refusal_reason(refusal: Refusal) -> u64
         Refusal::NoReadyVector => 58,
         Refusal::InterruptFlagClear => 59,
         Refusal::TargetGuarded => 60,
+        Refusal::NoSuchMask => 61,
+        Refusal::WatchAtLevelZero => 62,
     }
 }
 

@@ -11,9 +11,10 @@ use borrow.Author.Tests.{lt-ltb}
 use Rattle.word.specs.Field.{bit}
 use Rattle.model.specs.declared.machine.Setup.{Setup}
 use Rattle.model.proofs.Four.{below-four}
+use Rattle.processor.specs.Record.{recordWords}
 use Rattle.script.specs.EventForms.{processor}
 use Rattle.records.specs.declared.place.Place.{Place}
-use Rattle.records.specs.declared.place.Place.the-variants.{PartitionEnabled, Mbec, Config, Active, Shared, Register, Tpr, Pending, Enabled, Secure, Reason, From, Rax, Rcx, Word, Mask}
+use Rattle.records.specs.declared.place.Place.the-variants.{PartitionEnabled, Mbec, Config, Active, Shared, Register, Tpr, Pending, Enabled, Secure, Reason, From, Rax, Rcx, Word, Mask, Intercepts, Cr0Mask, Cr4Mask}
 use Rattle.records.specs.Places.{has, known}
 use Rattle.records.specs.Reading.{only}
 use Rattle.records.specs.Values.{number}
@@ -45,14 +46,14 @@ only-zero c q = go (has c q)
     go true = refl
     go false = refl
 
-record-zero : (b : Bool) (i : ℕ) → i < 126 → (i ≡ 1 → ⊥) → getD (blankRecord b) i 0 ≡ 0
-record-zero b i h k = getD-set-other (replicate 126 0) 1 i (number b) 0 k ∙ getD-replicate 126 i 0 0 h
+record-zero : (b : Bool) (i : ℕ) → i < recordWords → (i ≡ 1 → ⊥) → getD (blankRecord b) i 0 ≡ 0
+record-zero b i h k = getD-set-other (replicate recordWords 0) 1 i (number b) 0 k ∙ getD-replicate recordWords i 0 0 h
 
 module _ (c : Setup) where
   row-is : (v : ℕ) → v < 4 → getD (blankParts c .vps) v [] ≡ blankRow (c .processors) v
   row-is = below-four (λ v. getD (blankParts c .vps) v [] ≡ blankRow (c .processors) v) refl refl refl refl
 
-  row-zero : (v i : ℕ) → v < 4 → i < 126 → (i ≡ 1 → ⊥) → getD (getD (blankParts c .vps) v []) i 0 ≡ 0
+  row-zero : (v i : ℕ) → v < 4 → i < recordWords → (i ≡ 1 → ⊥) → getD (getD (blankParts c .vps) v []) i 0 ≡ 0
   row-zero v i h k n = rw (row-is v h) (record-zero (ltb v (c .processors)) i k n)
 
   blank-zero : (q : Place) → Room q → keptAt (blankParts c) q ≡ 0
@@ -71,6 +72,9 @@ module _ (c : Setup) where
   blank-zero (From v l) h = row-zero (v .0) _ (h .0) (omega arith) (λ e. omega arith)
   blank-zero (Rax v l) h = row-zero (v .0) _ (h .0) (omega arith) (λ e. omega arith)
   blank-zero (Rcx v l) h = row-zero (v .0) _ (h .0) (omega arith) (λ e. omega arith)
+  blank-zero (Intercepts v l) h = row-zero (v .0) _ (h .0) (omega arith) (λ e. omega arith)
+  blank-zero (Cr0Mask v l) h = row-zero (v .0) _ (h .0) (omega arith) (λ e. omega arith)
+  blank-zero (Cr4Mask v l) h = row-zero (v .0) _ (h .0) (omega arith) (λ e. omega arith)
   blank-zero (Word p) h = getD-replicate 64 (p .0) 0 0 h
   blank-zero (Mask p t) h = getD-replicate 256 (4 * p .0 + t .0) 0 0 (omega arith)
 
@@ -79,7 +83,7 @@ module _ (c : Setup) where
 
   pub stands-blank : Stands c (blankParts c) (λ p. 0)
   stands-blank = record {
-    sizes = record { levels = refl; masks = refl; words = refl; vps = refl; row = below-four (λ v. length (getD (blankParts c .vps) v []) ≡ 126) refl refl refl refl };
+    sizes = record { levels = refl; masks = refl; words = refl; vps = refl; row = below-four (λ v. length (getD (blankParts c .vps) v []) ≡ recordWords) refl refl refl refl };
     low-enabled = omega arith;
     low-mbec = omega arith;
     low-on = λ v h. rw (row-is v h) (number-low (ltb v (c .processors)));

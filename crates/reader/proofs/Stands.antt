@@ -15,11 +15,11 @@ use Rattle.model.specs.State.{level, levelSet}
 use Rattle.model.proofs.LevelSets.{set-of-bits}
 use Rattle.model.proofs.Sets.{bits-cong}
 use Rattle.partition.specs.PartitionView.{partitionOf}
-use Rattle.processor.specs.Record.{contextIn, contextOf, part, rowOf, vpOf}
+use Rattle.processor.specs.Record.{contextIn, contextOf, cr0Mask, cr4Mask, intercepts, levelWords, part, recordWords, rowOf, vpOf}
 use Rattle.script.specs.EventForms.{page, processor}
 use Rattle.state.specs.Lent.{lent, machineOf}
 use Rattle.records.specs.declared.place.Place.{Place}
-use Rattle.records.specs.declared.place.Place.the-variants.{PartitionEnabled, Mbec, Config, Active, Shared, Register, Tpr, Pending, Enabled, Secure, Reason, From, Rax, Rcx, Word, Mask}
+use Rattle.records.specs.declared.place.Place.the-variants.{PartitionEnabled, Mbec, Config, Active, Shared, Register, Tpr, Pending, Enabled, Secure, Reason, From, Rax, Rcx, Word, Mask, Intercepts, Cr0Mask, Cr4Mask}
 use Rattle.records.specs.Places.{endRank, has, known, rank}
 use Rattle.records.specs.Reading.{isFlag, only}
 use Rattle.records.specs.Values.{contextFrom, number, partitionFrom, setFrom, stateFrom, table, vpFrom}
@@ -49,6 +49,9 @@ room-of c (Rax v l) few h = limits c (Rax v l) h
 room-of c (Rcx v l) few h = limits c (Rcx v l) h
 room-of c (Word p) few h = omega (arith, limits c (Word p) h, few .pages)
 room-of c (Mask p t) few h = omega (arith, limits c (Mask p t) h)
+room-of c (Intercepts v l) few h = limits c (Intercepts v l) h
+room-of c (Cr0Mask v l) few h = limits c (Cr0Mask v l) h
+room-of c (Cr4Mask v l) few h = limits c (Cr4Mask v l) h
 
 -- Two places of a state with one rank are the same.
 module _ (c : Setup) where
@@ -84,6 +87,9 @@ place-bit (Rax v l) h = omega arith
 place-bit (Rcx v l) h = omega arith
 place-bit (Word p) h = omega arith
 place-bit (Mask p t) h = omega arith
+place-bit (Intercepts v l) h = omega arith
+place-bit (Cr0Mask v l) h = omega arith
+place-bit (Cr4Mask v l) h = omega arith
 
 pub record Stands (c : Setup) (m : Parts) (g : Place → ℕ) : Type 0 where
   pub sizes : Sizes m
@@ -147,13 +153,13 @@ set-of w lowest quantity low first each =
     go zero h = sym (flag (bit w 0)) ∙ ap (λ n. eqb n 1) first ∙ flag lowest
     go (suc l) h = rw (ne-eqb (suc l) 0 (λ k. omega arith)) (sym (flag (bit w (suc l))) ∙ ap (λ n. eqb n 1) (each (suc l) (omega arith) h))
 
-row-at : (ws : List ℕ) (l k : ℕ) → k < 26 → getD (rowOf ws l) k 0 ≡ getD ws (22 + 26 * l + k) 0
+row-at : (ws : List ℕ) (l k : ℕ) → k < levelWords → getD (rowOf ws l) k 0 ≡ getD ws (22 + levelWords * l + k) 0
 unfolding rowOf
-row-at ws l k h = getD-take 26 (drop (22 + 26 * l) ws) k 0 h ∙ getD-drop (22 + 26 * l) ws k 0
+row-at ws l k h = getD-take levelWords (drop (22 + levelWords * l) ws) k 0 h ∙ getD-drop (22 + levelWords * l) ws k 0
 
-row-length : (ws : List ℕ) (l : ℕ) → length ws ≡ 126 → l < 4 → length (rowOf ws l) ≡ 26
+row-length : (ws : List ℕ) (l : ℕ) → length ws ≡ recordWords → l < 4 → length (rowOf ws l) ≡ levelWords
 unfolding rowOf
-row-length ws l e h = length-take 26 (drop (22 + 26 * l) ws) ∙ omega (arith, length-drop (22 + 26 * l) ws)
+row-length ws l e h = length-take levelWords (drop (22 + levelWords * l) ws) ∙ omega (arith, length-drop (22 + levelWords * l) ws)
 
 part-at : (from n : ℕ) (ws : List ℕ) (i : ℕ) → i < n → getD (part from n ws) i 0 ≡ getD ws (from + i) 0
 part-at from n ws i h = getD-take n (drop from ws) i 0 h ∙ getD-drop from ws i 0
@@ -171,7 +177,7 @@ module _ {c : Setup} {m : Parts} {g : Place → ℕ} (s : Stands c m g) (few : S
   context-is : (v l : ℕ) → v < 4 → l < 4 → contextIn (row v) l ≡ contextFrom G (processor v) (level l)
   unfolding contextIn contextOf slotOf Room
   context-is v l h k =
-      let size : length (rowOf (row v) l) ≡ 26 = row-length (row v) l (s .sizes .row v h) k in
+      let size : length (rowOf (row v) l) ≡ levelWords = row-length (row v) l (s .sizes .row v h) k in
       λ i. record {
         registers =
             list-is (take 13 (rowOf (row v) l)) 13 0 (λ r. G (Register (processor v) (level l) r)) (length-take 13 (rowOf (row v) l) ∙ omega arith)
@@ -188,6 +194,11 @@ module _ {c : Setup} {m : Parts} {g : Place → ℕ} (s : Stands c m g) (few : S
           from = level ((row-at (row v) l 23 (omega arith) ∙ s .kept (From (processor v) (level l)) (h, k)) i);
           rax = (row-at (row v) l 24 (omega arith) ∙ s .kept (Rax (processor v) (level l)) (h, k)) i;
           rcx = (row-at (row v) l 25 (omega arith) ∙ s .kept (Rcx (processor v) (level l)) (h, k)) i;
+        };
+        watch = record {
+          intercepts = (row-at (row v) l intercepts (omega arith) ∙ s .kept (Intercepts (processor v) (level l)) (h, k)) i;
+          «cr0_mask» = (row-at (row v) l cr0Mask (omega arith) ∙ s .kept (Cr0Mask (processor v) (level l)) (h, k)) i;
+          «cr4_mask» = (row-at (row v) l cr4Mask (omega arith) ∙ s .kept (Cr4Mask (processor v) (level l)) (h, k)) i;
         };
       }
 

@@ -15,9 +15,10 @@ use Rattle.model.specs.declared.quantity.Level.{Level}
 use Rattle.model.specs.declared.quantity.Processor.{Processor}
 use Rattle.model.specs.State.{level}
 use Rattle.model.proofs.ArrayLaws.{set-cases}
+use Rattle.processor.specs.Record.{cr0Mask, cr4Mask, intercepts, levelWords, recordWords}
 use Rattle.script.specs.EventForms.{page, processor}
 use Rattle.records.specs.declared.place.Place.{Place}
-use Rattle.records.specs.declared.place.Place.the-variants.{PartitionEnabled, Mbec, Config, Active, Shared, Register, Tpr, Pending, Enabled, Secure, Reason, From, Rax, Rcx, Word, Mask}
+use Rattle.records.specs.declared.place.Place.the-variants.{PartitionEnabled, Mbec, Config, Active, Shared, Register, Tpr, Pending, Enabled, Secure, Reason, From, Rax, Rcx, Word, Mask, Intercepts, Cr0Mask, Cr4Mask}
 use Rattle.records.specs.Reading.{isFlag}
 use Rattle.records.specs.Values.{number}
 use Rattle.records.proofs.Made.{flag-back}
@@ -50,14 +51,14 @@ pub record Sizes (m : Parts) : Type 0 where
   pub masks : length (m .masks) ≡ 256
   pub words : length (m .words) ≡ 64
   pub vps : length (m .vps) ≡ 4
-  pub row : (v : ℕ) → v < 4 → length (getD (m .vps) v []) ≡ 126
+  pub row : (v : ℕ) → v < 4 → length (getD (m .vps) v []) ≡ recordWords
 
 -- The place of a word lies within its array.
 abbrev Holds : Array → ℕ → Type 0
 Holds ofLevels i = i < 6
 Holds ofMasks i = i < 256
 Holds ofWords i = i < 64
-Holds (ofRecord v) i = (v < 4) × (i < 126)
+Holds (ofRecord v) i = (v < 4) × (i < recordWords)
 
 module _ {m : Parts} (sizes : Sizes m) where
   word-same : (a : Array) (i x : ℕ) → Holds a i → wordAt a i (withWord a i x m) ≡ x
@@ -68,9 +69,9 @@ module _ {m : Parts} (sizes : Sizes m) where
       rw (getD-set-same (m .vps) v (set (getD (m .vps) v []) i x) [] (omega (arith, sizes .vps)))
       (getD-set-same (getD (m .vps) v []) i x 0 (omega (arith, sizes .row v (h .0))))
 
-  sizes-row : (v i x u : ℕ) → u < 4 → length (getD (set (m .vps) v (set (getD (m .vps) v []) i x)) u []) ≡ 126
+  sizes-row : (v i x u : ℕ) → u < 4 → length (getD (set (m .vps) v (set (getD (m .vps) v []) i x)) u []) ≡ recordWords
   sizes-row v i x u h =
-      set-cases (λ row. length row ≡ 126) (m .vps) v u (set (getD (m .vps) v []) i x) [] (sizes .row u h)
+      set-cases (λ row. length row ≡ recordWords) (m .vps) v u (set (getD (m .vps) v []) i x) [] (sizes .row u h)
       (λ e. length-set (getD (m .vps) v []) i x ∙ sizes .row v (omega arith))
 
   sizes-word : (a : Array) (i x : ℕ) → Sizes (withWord a i x m)
@@ -158,10 +159,11 @@ rowPlace v l k =
     cond (ltb k 13) (Register v l k)
     (cond (eqb k 13) (Tpr v l)
     (cond (ltb k 18) (Pending v l (k - 14))
-    (cond (ltb k 22) (Secure v l (level (k - 18))) (cond (eqb k 22) (Reason v l) (cond (eqb k 23) (From v l) (cond (eqb k 24) (Rax v l) (Rcx v l)))))))
+    (cond (ltb k 22) (Secure v l (level (k - 18))) (cond (eqb k 22) (Reason v l) (cond (eqb k 23) (From v l) (cond (eqb k 24) (Rax v l)
+    (cond (eqb k 25) (Rcx v l) (cond (eqb k intercepts) (Intercepts v l) (cond (eqb k cr0Mask) (Cr0Mask v l) (Cr4Mask v l))))))))))
 
 abbrev recordPlace : Processor → ℕ → Place
-recordPlace v i = cond (eqb i 0) (Active v) (cond (ltb i 22) (Shared v (i + 10)) (rowPlace v (level ((i - 22) / 26)) ((i - 22) % 26)))
+recordPlace v i = cond (eqb i 0) (Active v) (cond (ltb i 22) (Shared v (i + 10)) (rowPlace v (level ((i - 22) / levelWords)) ((i - 22) % levelWords)))
 
 abbrev placeOf : Slot → Place
 placeOf (whole ofLevels i) = Config (level (i - 2))
@@ -173,11 +175,11 @@ placeOf (oneBit ofMasks i b) = Word (page i)
 placeOf (oneBit ofWords i b) = Word (page i)
 placeOf (oneBit (ofRecord v) i b) = Enabled (processor v) (level b)
 
-row-place : (v : Processor) (l : Level) (k : ℕ) → k < 26 → recordPlace v (22 + 26 * l .0 + k) ≡ rowPlace v l k
+row-place : (v : Processor) (l : Level) (k : ℕ) → k < levelWords → recordPlace v (22 + levelWords * l .0 + k) ≡ rowPlace v l k
 row-place v l k h =
-    let q : (22 + 26 * l .0 + k - 22) / 26 ≡ l .0 = omega arith in
-    let r : (22 + 26 * l .0 + k - 22) % 26 ≡ k = omega arith in
-    rw (ne-eqb (22 + 26 * l .0 + k) 0 (λ e. omega arith), le-ltb (22 + 26 * l .0 + k) 22 (omega arith), q, r)
+    let q : (22 + levelWords * l .0 + k - 22) / levelWords ≡ l .0 = omega arith in
+    let r : (22 + levelWords * l .0 + k - 22) % levelWords ≡ k = omega arith in
+    rw (ne-eqb (22 + levelWords * l .0 + k) 0 (λ e. omega arith), le-ltb (22 + levelWords * l .0 + k) 22 (omega arith), q, r)
 
 slot-place : (p : Place) → Room p → placeOf (slotOf p) ≡ p
 unfolding slotOf Room
@@ -209,6 +211,9 @@ slot-place (Reason v l) h = row-place v l 22 (omega arith)
 slot-place (From v l) h = row-place v l 23 (omega arith)
 slot-place (Rax v l) h = row-place v l 24 (omega arith)
 slot-place (Rcx v l) h = row-place v l 25 (omega arith)
+slot-place (Intercepts v l) h = row-place v l intercepts (omega arith)
+slot-place (Cr0Mask v l) h = row-place v l cr0Mask (omega arith)
+slot-place (Cr4Mask v l) h = row-place v l cr4Mask (omega arith)
 slot-place (Word p) h = refl
 slot-place (Mask p t) h =
     let q : (4 * p .0 + t .0) / 4 ≡ p .0 = omega arith in
@@ -216,8 +221,8 @@ slot-place (Mask p t) h =
     rw (q, r)
 
 -- Each place's slot is right and within its array.
-row-right : (v l k : ℕ) → flagged (ofRecord v) (22 + 26 * l + k) ≡ false
-row-right v l k = ne-eqb (22 + 26 * l + k) 1 (λ e. omega arith)
+row-right : (v l k : ℕ) → flagged (ofRecord v) (22 + levelWords * l + k) ≡ false
+row-right v l k = ne-eqb (22 + levelWords * l + k) 1 (λ e. omega arith)
 
 pub place-right : (p : Place) → Room p → Right (slotOf p)
 unfolding slotOf Room
@@ -237,6 +242,9 @@ place-right (Rax v l) h = row-right (v .0) (l .0) 24
 place-right (Rcx v l) h = row-right (v .0) (l .0) 25
 place-right (Word p) h = refl
 place-right (Mask p t) h = refl
+place-right (Intercepts v l) h = row-right (v .0) (l .0) intercepts
+place-right (Cr0Mask v l) h = row-right (v .0) (l .0) cr0Mask
+place-right (Cr4Mask v l) h = row-right (v .0) (l .0) cr4Mask
 
 place-within : (p : Place) → Room p → Within (slotOf p)
 unfolding slotOf Room
@@ -256,6 +264,9 @@ place-within (Rax v l) h = omega arith
 place-within (Rcx v l) h = omega arith
 place-within (Word p) h = omega arith
 place-within (Mask p t) h = omega arith
+place-within (Intercepts v l) h = omega arith
+place-within (Cr0Mask v l) h = omega arith
+place-within (Cr4Mask v l) h = omega arith
 
 -- Only a flag is kept as a bit.
 never : {A : Type 0} {a b : Array} {i j c : ℕ} → whole a i ≡ oneBit b j c → A
@@ -279,6 +290,9 @@ place-flag (Rax v l) a i b h = never h
 place-flag (Rcx v l) a i b h = never h
 place-flag (Word p) a i b h = never h
 place-flag (Mask p t) a i b h = never h
+place-flag (Intercepts v l) a i b h = never h
+place-flag (Cr0Mask v l) a i b h = never h
+place-flag (Cr4Mask v l) a i b h = never h
 
 -- The quantity at a place is the one stored there, and every other place keeps its own.
 module _ {m : Parts} (sizes : Sizes m) (p : Place) (x : ℕ) (room : Room p) where

@@ -8,6 +8,7 @@ use lib.Dec.{ltb}
 use lib.ListN.{drop, length, replicate, set, take}
 use Rattle.model.specs.declared.machine.Setup.{Setup}
 use Rattle.model.specs.State.{State, top}
+use Rattle.processor.specs.Record.{recordWords}
 use Rattle.script.specs.Records.{lines}
 use Rattle.state.specs.Lent.{lent}
 use Rattle.records.specs.Places.{places}
@@ -40,7 +41,7 @@ Few setup = (setup .processors ≤ 4) × (top (setup .shape) ≤ 3) × (setup .p
 
 -- The parts before any quantity is stored: all 0 but level 0, which is enabled.
 abbrev pub blankRecord : Bool → List ℕ
-blankRecord on = set (replicate 126 0) 1 (number on)
+blankRecord on = set (replicate recordWords 0) 1 (number on)
 
 abbrev pub blankRow : ℕ → ℕ → List ℕ
 blankRow processors v = blankRecord (ltb v processors)

@@ -6,9 +6,9 @@ use lib.ListN.{getD, set}
 use Rattle.word.specs.Field.{bit, put}
 use Rattle.model.specs.declared.quantity.Level.{Level}
 use Rattle.model.specs.declared.quantity.Processor.{Processor}
-use Rattle.processor.specs.Record.{levelWords, pending, reason, from, savedRax, savedRcx, secure, tpr}
+use Rattle.processor.specs.Record.{cr0Mask, cr4Mask, from, intercepts, levelWords, pending, reason, savedRax, savedRcx, secure, tpr}
 use Rattle.records.specs.declared.place.Place.{Place}
-use Rattle.records.specs.declared.place.Place.the-variants.{PartitionEnabled, Mbec, Config, Active, Shared, Register, Tpr, Pending, Enabled, Secure, Reason, From, Rax, Rcx, Word, Mask}
+use Rattle.records.specs.declared.place.Place.the-variants.{PartitionEnabled, Mbec, Config, Active, Shared, Register, Tpr, Pending, Enabled, Secure, Reason, From, Rax, Rcx, Word, Mask, Intercepts, Cr0Mask, Cr4Mask}
 use Rattle.records.specs.Values.{number}
 
 -- The parts that code lends: the words of the levels, the masks, the words of four processors, and the words of the pages.
@@ -67,6 +67,9 @@ slotOf (Rax v l) = inRow v l savedRax
 slotOf (Rcx v l) = inRow v l savedRcx
 slotOf (Word p) = whole ofWords (p .0)
 slotOf (Mask p t) = whole ofMasks (4 * p .0 + t .0)
+slotOf (Intercepts v l) = inRow v l intercepts
+slotOf (Cr0Mask v l) = inRow v l cr0Mask
+slotOf (Cr4Mask v l) = inRow v l cr4Mask
 
 -- The quantity in a slot, and the parts with another quantity in it.
 abbrev pub inSlot : Slot → Parts → ℕ
@@ -103,3 +106,6 @@ Room (Rax v l) = (v .0 < 4) × (l .0 < 4)
 Room (Rcx v l) = (v .0 < 4) × (l .0 < 4)
 Room (Word p) = p .0 < 64
 Room (Mask p t) = (p .0 < 64) × (t .0 < 4)
+Room (Intercepts v l) = (v .0 < 4) × (l .0 < 4)
+Room (Cr0Mask v l) = (v .0 < 4) × (l .0 < 4)
+Room (Cr4Mask v l) = (v .0 < 4) × (l .0 < 4)

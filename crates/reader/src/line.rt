@@ -133,6 +133,9 @@ fn is_flag(place: Place) -> bool
         Place::Rcx(_, _) => false,
         Place::Word(_) => false,
         Place::Mask(_, _) => false,
+        Place::Intercepts(_, _) => false,
+        Place::Cr0Mask(_, _) => false,
+        Place::Cr4Mask(_, _) => false,
     }
 }
 

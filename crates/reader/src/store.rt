@@ -142,5 +142,8 @@ pub(crate) fn store(
         Place::Rcx(v, l) => set_in(vps, v, in_row(l, record::SAVED_RCX), x),
         Place::Word(p) => set_page_word(words, p, x),
         Place::Mask(p, t) => set_mask_word(masks, 4 * p.0 + t.0, x),
+        Place::Intercepts(v, l) => set_in(vps, v, in_row(l, record::INTERCEPTS), x),
+        Place::Cr0Mask(v, l) => set_in(vps, v, in_row(l, record::CR0_MASK), x),
+        Place::Cr4Mask(v, l) => set_in(vps, v, in_row(l, record::CR4_MASK), x),
     }
 }

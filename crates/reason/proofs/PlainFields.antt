@@ -69,7 +69,7 @@ unfolding fieldsOf
 plain-fields reason.Nothing = refl
 plain-fields (reason.Named r) = rw (plain-name r)
 plain-fields (reason.Denied e) = plain-sheet e
-plain-fields reason.Intercepted = refl
+plain-fields reason.RegisterWatched = refl
 plain-fields reason.OutOfRange = refl
 plain-fields reason.EmptyInput = refl
 
@@ -105,7 +105,7 @@ unfolding fieldsOf parted
 short-fields reason.Nothing = omega arith
 short-fields (reason.Named r) = omega (arith, length-append (reasonName r) [], short-name r)
 short-fields (reason.Denied e) = omega (arith, ap length (sheet-parted e), line-length e)
-short-fields reason.Intercepted = omega arith
+short-fields reason.RegisterWatched = omega arith
 short-fields reason.OutOfRange = omega arith
 short-fields reason.EmptyInput = omega arith
 

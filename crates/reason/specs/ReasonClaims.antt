@@ -12,15 +12,18 @@ use Rattle.model.specs.Claims.{conditions}
 use Rattle.model.specs.State.{State}
 use Rattle.model.specs.Step.{step}
 use Rattle.model.specs.declared.answer.Answer.{Answer}
-use Rattle.model.specs.declared.answer.Answer.the-variants.{Refused}
 use Rattle.model.specs.declared.answer.Refusal.{Refusal}
+use Rattle.model.specs.declared.event.Action.{Action}
+use Rattle.model.specs.declared.event.Action.the-variants.{Enpart, Envp, Call, Ret, Read, Write, Fetch, Protect, Config, Secure, Flush, Rreg, Wreg, Tpr, Ack, Pstat, Vstat, Caps, Cri, Crm}
 use Rattle.model.specs.declared.event.Event.{Event}
+use Rattle.model.specs.declared.event.Event.the-variants.{Made, Int}
 use Rattle.reason.specs.ReasonNames.{namedAmong, reasonName, refusals}
 use Rattle.reason.specs.ReasonedListing.{cutToFour, reasoned}
-use Rattle.reason.specs.Reasons.{Reason, lineWith, longestReasoned, reasonFields, reasonedText}
+use Rattle.reason.specs.Reasons.{Reason, lineWith, longestReasoned, reasonFields, reasonOf, reasonedText}
 use Rattle.reason.specs.declared.Reason.the-variants as reason
 use Rattle.records.specs.RecordTexts.{ended}
 use Rattle.script.specs.declared.Parsed.{Parsed}
+use Rattle.script.specs.declared.Parsed.the-variants as parsed
 
 -- A name says its refusal, and so no two refusals share one.
 abbrev pub NameSays : Type 0
@@ -41,9 +44,41 @@ pub record FirstHolding (all : List (Answer × Bool)) (a : Answer) : Type 0 wher
   pub split : all ≡ before ++ (a, true) ∷ after
   pub none-before : NoneHolds before
 
--- The refusal of an event is that of the first condition of the event's rule that holds: so the name says this condition.
+-- The answer of an event that is not done is that of the first condition of the event's rule that holds: so the name says this condition.
 abbrev pub FirstCondition : Type 0
-FirstCondition = (s : State) (e : Event) (r : Refusal) → step s e .answer ≡ Refused r → FirstHolding (conditions s e) (Refused r)
+FirstCondition = (s : State) (e : Event) → (numberOf (step s e .answer) ≡ 0 → ⊥) → FirstHolding (conditions s e) (step s e .answer)
+
+-- A line that reads or writes a register.
+abbrev pub ofRegister : Action → Bool
+ofRegister (Enpart t mbec) = false
+ofRegister (Envp w t ip sp cr) = false
+ofRegister (Call len) = false
+ofRegister (Ret len) = false
+ofRegister (Read p) = false
+ofRegister (Write p x) = false
+ofRegister (Fetch p) = false
+ofRegister (Protect p k) = false
+ofRegister (Config g w) = false
+ofRegister (Secure l w) = false
+ofRegister Flush = false
+ofRegister (Rreg g r) = true
+ofRegister (Wreg g r x) = true
+ofRegister (Tpr class) = false
+ofRegister Ack = false
+ofRegister Pstat = false
+ofRegister Vstat = false
+ofRegister Caps = false
+ofRegister (Cri word) = false
+ofRegister (Crm n mask) = false
+
+abbrev pub registerLine : Parsed → Bool
+registerLine (parsed.Malformed r) = false
+registerLine (parsed.Event (Made v mode a)) = ofRegister a
+registerLine (parsed.Event (Int w g n)) = false
+
+-- Only such a line is told that the register is watched (02, request 6).
+abbrev pub OnlyRegisters : Type 0
+OnlyRegisters = (s : State) (said : Parsed) → reasonOf s said ≡ reason.RegisterWatched → registerLine said ≡ true
 
 -- A line has no reason exactly at 0.
 abbrev pub NoneAtDone : Type 0

@@ -42,21 +42,22 @@ deniedBy (cause.Access e) other = reason.Denied e
 abbrev pub isDenial : Refusal → Bool
 isDenial r = eqb (refusalNumber r) 10 || eqb (refusalNumber r) 11
 
--- None at 0; at 9, 10 and 11 of an access why it is denied; else the condition that gave the answer.
+-- None at 0; at 9, 10 and 11 of an access why it is denied; at 9 of another event that the register is watched (02, request 6), by the level
+-- that the listing has as its value; else the condition that gave the answer.
 abbrev pub reasonFor : Cause → Answer → Reason
 reasonFor c (Done x) = reason.Nothing
 reasonFor c (Refused r) = cond (isDenial r) (deniedBy c (reason.Named r)) (reason.Named r)
-reasonFor c (Intercept l) = deniedBy c reason.Intercepted
+reasonFor c (Intercept l) = deniedBy c reason.RegisterWatched
 
 abbrev pub reasonOf : State → Parsed → Reason
 reasonOf s said = reasonFor (causeOf s (askedBy said)) (answered s said .answer)
 
--- The fields of a reason: a name, or the fields of the sheet. Only accesses are intercepted yet: no line has the field `intercept`.
+-- The fields of a reason: a name, or the fields of the sheet.
 unfoldable pub fieldsOf : Reason → List (List ℕ)
 fieldsOf reason.Nothing = []
 fieldsOf (reason.Named r) = reasonName r ∷ []
 fieldsOf (reason.Denied e) = sheetFields e
-fieldsOf reason.Intercepted = bytes "intercept" ∷ []
+fieldsOf reason.RegisterWatched = bytes "register-watched" ∷ []
 fieldsOf reason.OutOfRange = bytes "first-line-out-of-range" ∷ []
 fieldsOf reason.EmptyInput = bytes "empty-input" ∷ []
 

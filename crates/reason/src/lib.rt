@@ -45,8 +45,8 @@ pub enum Reason {
     Named(Refusal),
     // the access is denied
     Denied(Explanation),
-    // an event that is no access is intercepted
-    Intercepted,
+    // a level watches the register that is read or written (02, request 6)
+    RegisterWatched,
     // the first line has a number out of range
     OutOfRange,
     // the script has no first line
@@ -105,6 +105,6 @@ pub fn reason_for(cause: Cause, answer: Answer) -> Reason
             }
             named
         }
-        Answer::Intercept(receiver) => denied_by(cause, Reason::Intercepted),
+        Answer::Intercept(receiver) => denied_by(cause, Reason::RegisterWatched),
     }
 }

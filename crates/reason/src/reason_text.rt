@@ -63,7 +63,7 @@ fn write_reason(out: &mut [u8], at: usize, why: Reason) -> usize
         Reason::Nothing => put(out, at, b"\n"),
         Reason::Named(refusal) => write_name(out, at, refusal),
         Reason::Denied(explanation) => write_sheet(out, at, explanation),
-        Reason::Intercepted => put(out, at, b"\tintercept\n"),
+        Reason::RegisterWatched => put(out, at, b"\tregister-watched\n"),
         Reason::OutOfRange => put(out, at, b"\tfirst-line-out-of-range\n"),
         Reason::EmptyInput => put(out, at, b"\tempty-input\n"),
     }

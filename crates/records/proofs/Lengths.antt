@@ -3,6 +3,7 @@ use mathlib.Core.Path.{_≡_, refl}
 use mathlib.Core.Bool.{Bool, true, false, cond}
 use mathlib.Core.List.{List, [], _∷_, _++_, map}
 use Prim.Native.Nat.{ℕ, zero, suc, _+_, _*_, _≤_, _<_}
+use native.Mathlib.Nat.{mul-le-mul-right}
 use native.Mathlib.Omega.{arith}
 use lib.Dec.{eqb}
 use lib.ListN.{length, length-append}
@@ -19,7 +20,7 @@ use Rattle.script.specs.LineForms.{tab}
 use Rattle.script.specs.ListingLine.{cell, lineFeed}
 use Rattle.script.specs.Texts.{parted, firstLineOf, firstText, written}
 use Rattle.records.specs.RecordClaims.{ShortText}
-use Rattle.records.specs.Places.{Place, PartitionEnabled, Mbec, Config, Active, Shared, Register, Tpr, Pending, Enabled, Secure, Reason, From, Rax, Rcx, Word, Mask, rising, privateCount, sharedCount, levelPlaces, processorPlaces, upperPlaces, contextPlaces, pagePlaces, ofLevels, ofProcessors, ofContexts, ofPages, places, has, endRank, rank}
+use Rattle.records.specs.Places.{Place, PartitionEnabled, Mbec, Config, Active, Shared, Register, Tpr, Pending, Enabled, Secure, Reason, From, Rax, Rcx, Word, Mask, Intercepts, Cr0Mask, Cr4Mask, rising, privateCount, sharedCount, levelPlaces, processorPlaces, upperPlaces, contextPlaces, pagePlaces, perUpper, crMaskPlaces, ofLevels, ofProcessors, ofContexts, ofPages, ofIntercepts, ofCrMasks, places, has, endRank, rank}
 use Rattle.records.specs.RecordTexts.{headOf, closed, front, recordLine, firstOf, linesAt, recordLines, ended, recordsText}
 use Rattle.records.specs.Values.{setupAt, valueAt}
 use Rattle.records.proofs.Limits.{limits}
@@ -106,12 +107,35 @@ module _ (c : Setup) (few : Small c) where
         few .pages,
       )
 
-  -- A machine has at most 765 places.
-  places-count : length (places c) ≤ 765
+  -- Where each level from 1 of a processor has at most `most` places.
+  uppers-count : (f : Processor → Level → List Place) (most : ℕ) → ((v : Processor) (t : Level) → length (f v t) ≤ most)
+      → length (perUpper c f) ≤ 4 * (3 * most)
+  uppers-count f most h =
+      omega (
+        arith,
+        length-rising (λ v. rising 1 (top (c .shape)) (λ t. f (processor v) (level t))) (3 * most) 0 (c .processors) (c .processors) (omega arith)
+            (λ v l m. omega (
+              arith,
+              length-rising (λ t. f (processor v) (level t)) most 1 (top (c .shape)) (1 + top (c .shape)) refl (λ t k b. h (processor v) (level t)),
+              mul-le-mul-right most (few .levels),
+            )),
+        mul-le-mul-right (3 * most) (few .processors),
+      )
+
+  intercepts-count : length (ofIntercepts c) ≤ 12
+  intercepts-count = uppers-count (λ v t. Intercepts v t ∷ []) 1 (λ v t. omega arith)
+
+  cr-masks-count : length (ofCrMasks c) ≤ 24
+  cr-masks-count = uppers-count crMaskPlaces 2 (λ v t. omega arith)
+
+  -- A machine has at most 801 places.
+  places-count : length (places c) ≤ 801
   unfolding places
   places-count =
       omega (
         arith,
+        length-append (ofLevels c ++ ofProcessors c ++ ofContexts c ++ ofPages c ++ ofIntercepts c) (ofCrMasks c),
+        length-append (ofLevels c ++ ofProcessors c ++ ofContexts c ++ ofPages c) (ofIntercepts c),
         length-append (ofLevels c ++ ofProcessors c ++ ofContexts c) (ofPages c),
         length-append (ofLevels c ++ ofProcessors c) (ofContexts c),
         length-append (ofLevels c) (ofProcessors c),
@@ -119,6 +143,8 @@ module _ (c : Setup) (few : Small c) where
         processors-count,
         contexts-count,
         pages-count,
+        intercepts-count,
+        cr-masks-count,
       )
 
   -- The indices of a place have at most two digits, and there are at most three.
@@ -150,6 +176,9 @@ module _ (c : Setup) (few : Small c) where
   low (Rcx v l) h = let b = limits c (Rcx v l) h in (omega arith, (omega arith, tt))
   low (Word p) h = let b = limits c (Word p) h in (omega (arith, few .pages), tt)
   low (Mask p t) h = let b = limits c (Mask p t) h in (omega arith, (omega arith, tt))
+  low (Intercepts v l) h = let b = limits c (Intercepts v l) h in (omega arith, (omega arith, tt))
+  low (Cr0Mask v l) h = let b = limits c (Cr0Mask v l) h in (omega arith, (omega arith, (omega arith, tt)))
+  low (Cr4Mask v l) h = let b = limits c (Cr4Mask v l) h in (omega arith, (omega arith, (omega arith, tt)))
 
   -- A word has at most seven bytes.
   head-length : (p : Place) → (length (headOf p .word) ≤ 7) × (length (headOf p .indices) ≤ 3)
@@ -170,6 +199,9 @@ module _ (c : Setup) (few : Small c) where
   head-length (Rcx v l) = (omega arith, omega arith)
   head-length (Word p) = (omega arith, omega arith)
   head-length (Mask p t) = (omega arith, omega arith)
+  head-length (Intercepts v l) = (omega arith, omega arith)
+  head-length (Cr0Mask v l) = (omega arith, omega arith)
+  head-length (Cr4Mask v l) = (omega arith, omega arith)
 
   record-length : (p : Place) (x : ℕ) → has c p ≡ true → length (recordLine p x) ≤ 37
   unfolding recordLine front

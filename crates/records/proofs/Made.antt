@@ -18,7 +18,7 @@ use Rattle.model.proofs.Bools.{and-left, and-right}
 use Rattle.model.proofs.Sets.{bit-bits}
 use Rattle.script.specs.EventForms.{processor, page}
 use Rattle.model.specs.declared.machine.Setup.{Setup}
-use Rattle.records.specs.Places.{Place, PartitionEnabled, Mbec, Config, Active, Shared, Register, Tpr, Pending, Enabled, Secure, Reason, From, Rax, Rcx, Word, Mask, known, upper, has, privateCount}
+use Rattle.records.specs.Places.{Place, PartitionEnabled, Mbec, Config, Active, Shared, Register, Tpr, Pending, Enabled, Secure, Reason, From, Rax, Rcx, Word, Mask, Intercepts, Cr0Mask, Cr4Mask, known, upper, has, privateCount}
 use Rattle.records.specs.Reading.{isFlag}
 use Rattle.records.specs.Values.{number, valueAt, setFrom, contextFrom, vpFrom, stateFrom}
 use Rattle.records.proofs.Sequence.{private-count, count-bounds, third, first-two}
@@ -118,6 +118,9 @@ module _ (c : Setup) (g : Place → ℕ) where
   made (From v l) h f = ap (λ (k : Context). k .control .from .0) (made-upper v l h)
   made (Rax v l) h f = ap (λ (k : Context). k .control .rax) (made-upper v l h)
   made (Rcx v l) h f = ap (λ (k : Context). k .control .rcx) (made-upper v l h)
+  made (Intercepts v l) h f = ap (λ (k : Context). k .watch .intercepts) (made-upper v l h)
+  made (Cr0Mask v l) h f = ap (λ (k : Context). k .watch .«cr0_mask») (made-upper v l h)
+  made (Cr4Mask v l) h f = ap (λ (k : Context). k .watch .«cr4_mask») (made-upper v l h)
   made (Word p) h f = word p (ltb-true (p .0) (c .pages) h)
   made (Mask p t) h f =
       mask p t h (low t (inside t (and-left (upper (c .shape) t) _ h))) (ltb-true (p .0) 64 (third (upper (c .shape) t) (ltb (p .0) (c .pages)) (ltb (p .0) 64) h))

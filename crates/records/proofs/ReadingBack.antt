@@ -27,7 +27,7 @@ use Rattle.script.specs.declared.Start.the-variants as start
 use Rattle.state.specs.Lent.{setupOf}
 use Rattle.model.specs.declared.machine.Setup.{Setup}
 use Rattle.records.specs.RecordClaims.{Exact}
-use Rattle.records.specs.Places.{Place, PartitionEnabled, Mbec, Config, Active, Shared, Register, Tpr, Pending, Enabled, Secure, Reason, From, Rax, Rcx, Word, Mask, places, has, endRank, rank}
+use Rattle.records.specs.Places.{Place, PartitionEnabled, Mbec, Config, Active, Shared, Register, Tpr, Pending, Enabled, Secure, Reason, From, Rax, Rcx, Word, Mask, Intercepts, Cr0Mask, Cr4Mask, places, has, endRank, rank}
 use Rattle.records.specs.Reading.{isFlag, Taken, taking, among, only, stateOfValues, Passed, fromTaken, fromFirst, firstRecord, passedOn}
 use Rattle.records.specs.RecordTexts.{firstOf, linesAt, recordLines}
 use Rattle.records.specs.Values.{setupAt, number, valueAt, contextFrom, vpFrom, stateFrom, plain, Lengths, Sized}
@@ -113,6 +113,9 @@ yes-no s (Rax v l) h = no-flag h
 yes-no s (Rcx v l) h = no-flag h
 yes-no s (Word p) h = no-flag h
 yes-no s (Mask p t) h = no-flag h
+yes-no s (Intercepts v l) h = no-flag h
+yes-no s (Cr0Mask v l) h = no-flag h
+yes-no s (Cr4Mask v l) h = no-flag h
 
 -- What is given at the places that a machine has, and nothing else, counts.
 only-same : (c : Setup) (f g : Place → ℕ) → ((p : Place) → has c p ≡ true → f p ≡ g p) → only c f ≡ only c g

@@ -16,7 +16,7 @@ use Rattle.model.specs.declared.quantity.Processor.{Processor}
 use Rattle.model.proofs.Bools.{and-left, and-right}
 use Rattle.script.specs.EventForms.{processor, page}
 use Rattle.model.specs.declared.machine.Setup.{Setup}
-use Rattle.records.specs.Places.{Place, PartitionEnabled, Mbec, Config, Active, Shared, Register, Tpr, Pending, Enabled, Secure, Reason, From, Rax, Rcx, Word, Mask, rising, privateCount, sharedCount, levelPlaces, processorPlaces, upperPlaces, contextPlaces, pagePlaces, ofLevels, ofProcessors, ofContexts, ofPages, places, known, upper, has, contextRank, endRank, rank}
+use Rattle.records.specs.Places.{Place, PartitionEnabled, Mbec, Config, Active, Shared, Register, Tpr, Pending, Enabled, Secure, Reason, From, Rax, Rcx, Word, Mask, Intercepts, Cr0Mask, Cr4Mask, rising, privateCount, sharedCount, levelPlaces, processorPlaces, upperPlaces, contextPlaces, pagePlaces, perUpper, crMaskPlaces, ofLevels, ofProcessors, ofContexts, ofPages, ofIntercepts, ofCrMasks, places, known, upper, has, contextRank, endRank, rank}
 use Rattle.records.specs.Reading.{among}
 
 -- Numbers of processors and levels for which there is room.
@@ -195,7 +195,7 @@ module _ (c : Setup) (small : Small c) where
       (λ l k m. run-within c (500 + 400 * v + 100 * l) (contextRank (processor v) (level l)) (contextRank (processor v) (level l) + 100) (500 + 400 * v + 100 * suc l)
       (levels-of v l) (omega arith) (omega arith) (context-run (processor v) (level l) b (omega arith)))))
 
-  pages-run : Run c 2100 (ofPages c) (endRank c)
+  pages-run : Run c 2100 (ofPages c) (2100 + 10 * c .pages)
   unfolding rank has
   pages-run = run-rising c (λ p. 2100 + 10 * p) (λ p. pagePlaces (c .shape) (page p)) 0 (c .pages) (c .pages) (omega arith)
       (λ p a b. (omega arith, lt-ltb p (c .pages) b, masks (page p) b))
@@ -207,16 +207,40 @@ module _ (c : Setup) (small : Small c) where
           (run-each c (λ t. Mask p (level t)) (2100 + 10 * p .0) 1 (top (c .shape)) (1 + top (c .shape)) refl (λ t. refl)
           (λ t a k. rw (up (level t) a k, lt-ltb (p .0) (c .pages) b, lt-ltb (p .0) 64 (omega arith))))
 
+  -- Per processor and level from 1: ten numbers are for a processor, and `at` is where those of a level begin.
+  uppers-run : (f : Processor → Level → List Place) (base : ℕ) (at : ℕ → ℕ) → ((n : ℕ) → n ≤ 4 → at n ≤ 10)
+      → ((v : Processor) (t : Level) → (known c v && upper (c .shape) t) ≡ true → Run c (base + 10 * v .0 + at (t .0)) (f v t) (base + 10 * v .0 + at (suc (t .0))))
+      → Run c base (perUpper c f) (base + 10 * c .processors)
+  uppers-run f base at narrow h =
+      run-within c base (base + 10 * 0) (base + 10 * c .processors) (base + 10 * c .processors) (perUpper c f) (omega arith) (omega arith)
+      (run-rising c (λ v. base + 10 * v) (λ v. rising 1 (top (c .shape)) (λ t. f (processor v) (level t))) 0 (c .processors) (c .processors) (omega arith)
+      (λ v a b. run-within c (base + 10 * v) (base + 10 * v + at 1) (base + 10 * v + at (1 + top (c .shape))) (base + 10 * suc v)
+      (rising 1 (top (c .shape)) (λ t. f (processor v) (level t))) (omega arith) (omega (arith, narrow (1 + top (c .shape)) (omega (arith, small .levels))))
+      (run-rising c (λ t. base + 10 * v + at t) (λ t. f (processor v) (level t)) 1 (top (c .shape)) (1 + top (c .shape)) refl
+      (λ t k m. h (processor v) (level t) (rw (known-true (processor v) b) (up (level t) k m))))))
+
+  intercepts-run : Run c 2800 (ofIntercepts c) (2800 + 10 * c .processors)
+  unfolding rank has
+  intercepts-run = uppers-run (λ v t. Intercepts v t ∷ []) 2800 (λ t. t) (λ n h. omega arith) (λ v t h. (omega arith, h, omega arith))
+
+  cr-masks-run : Run c 2900 (ofCrMasks c) (2900 + 10 * c .processors)
+  unfolding rank has
+  cr-masks-run = uppers-run crMaskPlaces 2900 (λ t. 2 * t) (λ n h. omega arith) (λ v t h. (omega arith, h, (omega arith, h, omega arith)))
+
   pub places-run : Run c 0 (places c) (endRank c)
   unfolding places
   places-run =
-      run-append c 0 2100 (endRank c) (ofLevels c ++ ofProcessors c ++ ofContexts c) (ofPages c)
+      run-append c 0 2900 (endRank c) (ofLevels c ++ ofProcessors c ++ ofContexts c ++ ofPages c ++ ofIntercepts c) (ofCrMasks c)
+      (run-append c 0 2800 2900 (ofLevels c ++ ofProcessors c ++ ofContexts c ++ ofPages c) (ofIntercepts c)
+      (run-append c 0 2100 2800 (ofLevels c ++ ofProcessors c ++ ofContexts c) (ofPages c)
       (run-append c 0 500 2100 (ofLevels c ++ ofProcessors c) (ofContexts c)
       (run-append c 0 100 500 (ofLevels c) (ofProcessors c)
       (run-within c 0 4 (4 * (1 + top (c .shape))) 100 (ofLevels c) (omega arith) (omega arith) levels-run)
       (run-within c 100 100 (100 + 100 * c .processors) 500 (ofProcessors c) (omega arith) (omega arith) processors-run))
       (run-within c 500 500 (500 + 400 * c .processors) 2100 (ofContexts c) (omega arith) (omega arith) contexts-run))
-      pages-run
+      (run-within c 2100 2100 (2100 + 10 * c .pages) 2800 (ofPages c) (omega arith) (omega arith) pages-run))
+      (run-within c 2800 2800 (2800 + 10 * c .processors) 2900 (ofIntercepts c) (omega arith) (omega arith) intercepts-run))
+      cr-masks-run
 
 -- A place is among some.
 pub data In {A : Type 0} : A → List A → Type 0 where
@@ -253,20 +277,21 @@ module _ (c : Setup) where
 
   in-levels : {p : Place} (t : Level) → upper (c .shape) t ≡ true → In p (levelPlaces t) → In p (places c)
   unfolding places
-  in-levels t h m = in-left _ (in-left _ (in-left _ (in-rising (λ t. levelPlaces (level t)) 1 (top (c .shape)) (t .0) (above t h .0) (omega (arith, above t h)) m)))
+  in-levels t h m =
+      in-left _ (in-left _ (in-left _ (in-left _ (in-left _ (in-rising (λ t. levelPlaces (level t)) 1 (top (c .shape)) (t .0) (above t h .0) (omega (arith, above t h)) m)))))
 
   in-processors : {p : Place} (v : Processor) → known c v ≡ true → In p (processorPlaces (c .shape) v) → In p (places c)
   unfolding places
   in-processors v h m =
-      in-left _ (in-left _ (in-right (ofLevels c)
-      (in-rising (λ v. processorPlaces (c .shape) (processor v)) 0 (c .processors) (v .0) (omega arith) (omega (arith, within v h)) m)))
+      in-left _ (in-left _ (in-left _ (in-left _ (in-right (ofLevels c)
+      (in-rising (λ v. processorPlaces (c .shape) (processor v)) 0 (c .processors) (v .0) (omega arith) (omega (arith, within v h)) m)))))
 
   in-contexts : {p : Place} (v : Processor) (l : Level) → known c v ≡ true → isLevel (c .shape) (l .0) ≡ true → In p (contextPlaces (c .shape) v l) → In p (places c)
   unfolding places
   in-contexts v l h k m =
-      in-left _ (in-right (ofLevels c ++ ofProcessors c)
+      in-left _ (in-left _ (in-left _ (in-right (ofLevels c ++ ofProcessors c)
       (in-rising (λ v. rising 0 (suc (top (c .shape))) (λ l. contextPlaces (c .shape) (processor v) (level l))) 0 (c .processors) (v .0) (omega arith) (omega (arith, within v h))
-      (in-rising (λ l. contextPlaces (c .shape) v (level l)) 0 (suc (top (c .shape))) (l .0) (omega arith) (omega (arith, reach (l .0) k)) m)))
+      (in-rising (λ l. contextPlaces (c .shape) v (level l)) 0 (suc (top (c .shape))) (l .0) (omega arith) (omega (arith, reach (l .0) k)) m)))))
 
   in-upper : {p : Place} (v : Processor) (l : Level) → (known c v && upper (c .shape) l) ≡ true → In p (upperPlaces v l) → In p (places c)
   in-upper {p} v l h m =
@@ -284,8 +309,24 @@ module _ (c : Setup) where
   in-pages : {p : Place} (i : Page) → i .0 < c .pages → In p (pagePlaces (c .shape) i) → In p (places c)
   unfolding places
   in-pages i h m =
-      in-right (ofLevels c ++ ofProcessors c ++ ofContexts c)
-      (in-rising (λ i. pagePlaces (c .shape) (page i)) 0 (c .pages) (i .0) (omega arith) (omega arith) m)
+      in-left _ (in-left _ (in-right (ofLevels c ++ ofProcessors c ++ ofContexts c)
+      (in-rising (λ i. pagePlaces (c .shape) (page i)) 0 (c .pages) (i .0) (omega arith) (omega arith) m)))
+
+  in-uppers : {p : Place} (f : Processor → Level → List Place) (v : Processor) (t : Level) → (known c v && upper (c .shape) t) ≡ true → In p (f v t) → In p (perUpper c f)
+  in-uppers f v t h m =
+      let u = above t (and-right (known c v) (upper (c .shape) t) h) in
+      in-rising (λ v. rising 1 (top (c .shape)) (λ t. f (processor v) (level t))) 0 (c .processors) (v .0) (omega arith)
+      (omega (arith, within v (and-left (known c v) (upper (c .shape) t) h)))
+      (in-rising (λ t. f v (level t)) 1 (top (c .shape)) (t .0) (u .0) (omega arith) m)
+
+  in-intercepts : {p : Place} (v : Processor) (t : Level) → (known c v && upper (c .shape) t) ≡ true → In p (Intercepts v t ∷ []) → In p (places c)
+  unfolding places
+  in-intercepts v t h m =
+      in-left _ (in-right (ofLevels c ++ ofProcessors c ++ ofContexts c ++ ofPages c) (in-uppers (λ v t. Intercepts v t ∷ []) v t h m))
+
+  in-cr-masks : {p : Place} (v : Processor) (t : Level) → (known c v && upper (c .shape) t) ≡ true → In p (crMaskPlaces v t) → In p (places c)
+  unfolding places
+  in-cr-masks v t h m = in-right (ofLevels c ++ ofProcessors c ++ ofContexts c ++ ofPages c ++ ofIntercepts c) (in-uppers crMaskPlaces v t h m)
 
   -- Each place that a state has is in the sequence.
   pub member : (p : Place) → has c p ≡ true → In p (places c)
@@ -317,6 +358,9 @@ module _ (c : Setup) where
   member (From v l) h = in-upper v l h (in-right (Enabled v l ∷ rising 0 (l .0) (λ k. Secure v l (level k) ∷ [])) (there here))
   member (Rax v l) h = in-upper v l h (in-right (Enabled v l ∷ rising 0 (l .0) (λ k. Secure v l (level k) ∷ [])) (there (there here)))
   member (Rcx v l) h = in-upper v l h (in-right (Enabled v l ∷ rising 0 (l .0) (λ k. Secure v l (level k) ∷ [])) (there (there (there here))))
+  member (Intercepts v t) h = in-intercepts v t h here
+  member (Cr0Mask v t) h = in-cr-masks v t h here
+  member (Cr4Mask v t) h = in-cr-masks v t h (there here)
   member (Word p) h = in-pages p (ltb-true (p .0) (c .pages) h) here
   member (Mask p t) h =
       let u = and-left (upper (c .shape) t) _ h in

@@ -1,19 +1,19 @@
 -- The walk from the first place on goes along the sequence of the records. Assumes nothing.
 use mathlib.Core.Path.{_≡_, refl, sym, ap, _∙_}
-use mathlib.Core.Bool.{Bool, true, false, cond}
+use mathlib.Core.Bool.{Bool, true, false, cond, and-false}
 use mathlib.Core.List.{List, [], _∷_, _++_}
 use Prim.Native.Nat.{ℕ, zero, suc, _+_, _≤_, _<_}
 use native.Mathlib.Numerals.{add-one}
 use native.Mathlib.Omega.{arith}
-use lib.Dec.{eqb}
-use borrow.Author.Tests.{lt-ltb, le-ltb, le-leb, lt-leb, eqb-false}
+use lib.Dec.{eqb, ltb}
+use borrow.Author.Tests.{lt-ltb, le-ltb, le-leb, lt-leb, ltb-true, ltb-false, eqb-false}
 use Rattle.model.specs.declared.quantity.Level.{Level}
 use Rattle.model.specs.declared.quantity.Processor.{Processor}
 use Rattle.model.specs.State.{level, top}
 use Rattle.script.specs.EventForms.{processor, page}
 use Rattle.model.specs.declared.machine.Setup.{Setup}
-use Rattle.records.specs.Places.{Place, Shared, Register, Tpr, Pending, Enabled, Secure, Reason, From, Rax, Rcx, Mask, rising, privateCount, sharedCount, levelPlaces, processorPlaces, upperPlaces, contextPlaces, pagePlaces, ofLevels, ofProcessors, ofContexts, ofPages, places, rank, endRank}
-use Rattle.records.specs.Walk.{Next, At, Done, toPage, toMask, toContexts, toContext, toRegister, toPending, toSecure, toProcessor, toShared, toLevel, nextOf, firstDue}
+use Rattle.records.specs.Places.{Place, Shared, Register, Tpr, Pending, Enabled, Secure, Reason, From, Rax, Rcx, Mask, Intercepts, Cr0Mask, rising, privateCount, sharedCount, levelPlaces, processorPlaces, upperPlaces, contextPlaces, pagePlaces, perUpper, crMaskPlaces, ofLevels, ofProcessors, ofContexts, ofPages, ofIntercepts, ofCrMasks, places, rank, endRank}
+use Rattle.records.specs.Walk.{Next, At, Done, On, Nowhere, upperFrom, upperAt, placed, toCrMask, toIntercepts, toPage, toMask, toContexts, toContext, toRegister, toPending, toSecure, toProcessor, toShared, toLevel, nextOf, firstDue}
 use Rattle.records.proofs.Sequence.{Run, counts, count-bounds}
 
 -- The walk from a goes over these places and comes to b.
@@ -120,7 +120,42 @@ module _ (c : Setup) where
       (walk-rising (toContext c (processor v)) (λ l. contextPlaces (c .shape) (processor v) (level l)) 0 (suc (top (c .shape))) (suc (top (c .shape))) (omega arith)
       (λ l k m. context-walk (processor v) (level l) (omega arith)))))
 
-  pages-walk : Walk c (toPage c 0) (ofPages c) Done
+  -- Per processor and level from 1: where each level's places lead to those of the next, all lead to the end.
+  module _ (place : Processor → Level → Place) (f : Processor → Level → List Place) (end : Next)
+      (each : (v : Processor) (t : Level) → Walk c (At (place v t)) (f v t) (placed place end (upperAt c v (t .0 + 1)))) where
+    enter : ℕ → Next
+    enter v = placed place end (upperFrom c v)
+
+    -- A processor is entered at level 1, if there is one.
+    first-upper : (v : ℕ) → v < c .processors → upperFrom c v ≡ upperAt c (processor v) 1
+    unfolding upperAt
+    first-upper v h = rw (lt-ltb v (c .processors) h) (go (ltb 0 (top (c .shape))) refl)
+      where
+        go : (b : Bool) → ltb 0 (top (c .shape)) ≡ b → cond b (On (processor v) (level 1)) Nowhere ≡ upperAt c (processor v) 1
+        go true e = rw (le-leb 1 (top (c .shape)) (omega (arith, ltb-true 0 (top (c .shape)) e)))
+        go false e = rw (lt-leb 1 (top (c .shape)) (omega (arith, ltb-false 0 (top (c .shape)) e)), and-false (ltb (v + 1) (c .processors)))
+
+    uppers-walk : Walk c (placed place end (upperFrom c 0)) (perUpper c f) end
+    unfolding enter upperAt
+    uppers-walk =
+        walk-ends (perUpper c f) refl (rw (le-ltb (c .processors) (c .processors) (omega arith)))
+        (walk-rising enter (λ v. rising 1 (top (c .shape)) (λ t. f (processor v) (level t))) 0 (c .processors) (c .processors) (omega arith)
+        (λ v a b. walk-ends (rising 1 (top (c .shape)) (λ t. f (processor v) (level t)))
+        (ap (placed place end) (first-upper v b))
+        (rw (lt-leb (1 + top (c .shape)) (top (c .shape)) (omega arith), add-one v))
+        (walk-rising (λ t. placed place end (upperAt c (processor v) t)) (λ t. f (processor v) (level t)) 1 (top (c .shape)) (1 + top (c .shape)) refl
+        (λ t k m. walk-ends (f (processor v) (level t)) (rw (le-leb t (top (c .shape)) (omega arith))) (ap (λ n. placed place end (upperAt c (processor v) n)) (add-one t))
+        (each (processor v) (level t))))))
+
+  intercepts-walk : Walk c (toIntercepts c (upperFrom c 0)) (ofIntercepts c) (toCrMask (upperFrom c 0))
+  unfolding nextOf
+  intercepts-walk = uppers-walk Intercepts (λ v t. Intercepts v t ∷ []) (toCrMask (upperFrom c 0)) (λ v t. (refl, refl))
+
+  cr-masks-walk : Walk c (toCrMask (upperFrom c 0)) (ofCrMasks c) Done
+  unfolding nextOf
+  cr-masks-walk = uppers-walk Cr0Mask crMaskPlaces Done (λ v t. (refl, (refl, refl)))
+
+  pages-walk : Walk c (toPage c 0) (ofPages c) (toIntercepts c (upperFrom c 0))
   unfolding toPage toMask nextOf
   pages-walk =
       walk-ends (ofPages c) refl (rw (le-ltb (c .pages) (c .pages) (omega arith)))
@@ -136,10 +171,14 @@ module _ (c : Setup) where
   pub places-walk : Walk c (firstDue c) (places c) Done
   unfolding places
   places-walk =
-      walk-append (toLevel c 1) (toPage c 0) Done (ofLevels c ++ ofProcessors c ++ ofContexts c) (ofPages c)
+      walk-append (toLevel c 1) (toCrMask (upperFrom c 0)) Done (ofLevels c ++ ofProcessors c ++ ofContexts c ++ ofPages c ++ ofIntercepts c) (ofCrMasks c)
+      (walk-append (toLevel c 1) (toIntercepts c (upperFrom c 0)) (toCrMask (upperFrom c 0)) (ofLevels c ++ ofProcessors c ++ ofContexts c ++ ofPages c) (ofIntercepts c)
+      (walk-append (toLevel c 1) (toPage c 0) (toIntercepts c (upperFrom c 0)) (ofLevels c ++ ofProcessors c ++ ofContexts c) (ofPages c)
       (walk-append (toLevel c 1) (toContexts c 0) (toPage c 0) (ofLevels c ++ ofProcessors c) (ofContexts c)
       (walk-append (toLevel c 1) (toProcessor c 0) (toContexts c 0) (ofLevels c) (ofProcessors c) levels-walk processors-walk) contexts-walk)
-      pages-walk
+      pages-walk)
+      intercepts-walk)
+      cr-masks-walk
 
 -- The walk does not end at a place.
 pub not-ended : {A : Type 0} {p : Place} → At p ≡ Done → A

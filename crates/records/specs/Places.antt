@@ -13,7 +13,7 @@ use Rattle.model.specs.declared.quantity.Page.{Page}
 use Rattle.model.specs.declared.quantity.Processor.{Processor}
 use Rattle.script.specs.EventForms.{processor, page}
 pub use Rattle.records.specs.declared.place.Place.{Place}
-pub use Rattle.records.specs.declared.place.Place.the-variants.{PartitionEnabled, Mbec, Config, Active, Shared, Register, Tpr, Pending, Enabled, Secure, Reason, From, Rax, Rcx, Word, Mask}
+pub use Rattle.records.specs.declared.place.Place.the-variants.{PartitionEnabled, Mbec, Config, Active, Shared, Register, Tpr, Pending, Enabled, Secure, Reason, From, Rax, Rcx, Word, Mask, Intercepts, Cr0Mask, Cr4Mask}
 
 -- What stands at each of `count` numbers from `start` up, one after the other.
 unfoldable pub rising : {A : Type 0} → ℕ → ℕ → (ℕ → List A) → List A
@@ -50,7 +50,15 @@ contextPlaces z v l =
 abbrev pub pagePlaces : Shape → Page → List Place
 pagePlaces z p = Word p ∷ rising 1 (top z) (λ t. Mask p (level t) ∷ [])
 
--- The four parts of the sequence, and the whole.
+-- What stands at each processor and each level from 1.
+abbrev pub perUpper : {A : Type 0} → Setup → (Processor → Level → List A) → List A
+perUpper setup f = rising 0 (setup .processors) (λ v. rising 1 (top (setup .shape)) (λ t. f (processor v) (level t)))
+
+-- Per processor and level from 1 `crm` for CR0 and for CR4 (02, request 6).
+abbrev pub crMaskPlaces : Processor → Level → List Place
+crMaskPlaces v t = Cr0Mask v t ∷ Cr4Mask v t ∷ []
+
+-- The six parts of the sequence, and the whole.
 abbrev pub ofLevels : Setup → List Place
 ofLevels setup = rising 1 (top (setup .shape)) (λ t. levelPlaces (level t))
 
@@ -64,8 +72,15 @@ ofContexts setup =
 abbrev pub ofPages : Setup → List Place
 ofPages setup = rising 0 (setup .pages) (λ p. pagePlaces (setup .shape) (page p))
 
+-- Request 6 of 02 adds the words of `cri`, then those of `crm`.
+abbrev pub ofIntercepts : Setup → List Place
+ofIntercepts setup = perUpper setup (λ v t. Intercepts v t ∷ [])
+
+abbrev pub ofCrMasks : Setup → List Place
+ofCrMasks setup = perUpper setup crMaskPlaces
+
 unfoldable pub places : Setup → List Place
-places setup = ofLevels setup ++ ofProcessors setup ++ ofContexts setup ++ ofPages setup
+places setup = ofLevels setup ++ ofProcessors setup ++ ofContexts setup ++ ofPages setup ++ ofIntercepts setup ++ ofCrMasks setup
 
 -- The same places by a test of each: one of the V processors, a level from 1 to M, and so on.
 abbrev pub known : Setup → Processor → Bool
@@ -91,8 +106,11 @@ has setup (Rax v l) = known setup v && upper (setup .shape) l
 has setup (Rcx v l) = known setup v && upper (setup .shape) l
 has setup (Word p) = ltb (p .0) (setup .pages)
 has setup (Mask p t) = upper (setup .shape) t && (ltb (p .0) (setup .pages) && ltb (p .0) 64)
+has setup (Intercepts v t) = known setup v && upper (setup .shape) t
+has setup (Cr0Mask v t) = known setup v && upper (setup .shape) t
+has setup (Cr4Mask v t) = known setup v && upper (setup .shape) t
 
--- A number for each place, rising along the sequence with gaps: a processor has 100 and 400 of them, a level 100, a page 10.
+-- A number for each place, rising along the sequence with gaps: a processor has 100, 400, 10 and 10 of them, a level 100, a page 10.
 abbrev pub contextRank : Processor → Level → ℕ
 contextRank v l = 500 + 400 * v .0 + 100 * l .0
 
@@ -113,7 +131,10 @@ rank (Rax v l) = contextRank v l + 42
 rank (Rcx v l) = contextRank v l + 43
 rank (Word p) = 2100 + 10 * p .0
 rank (Mask p t) = 2100 + 10 * p .0 + t .0
+rank (Intercepts v t) = 2800 + 10 * v .0 + t .0
+rank (Cr0Mask v t) = 2900 + 10 * v .0 + 2 * t .0
+rank (Cr4Mask v t) = 2900 + 10 * v .0 + 2 * t .0 + 1
 
 -- All ranks of a machine lie below this one.
 abbrev pub endRank : Setup → ℕ
-endRank setup = 2100 + 10 * setup .pages
+endRank setup = 2900 + 10 * setup .processors

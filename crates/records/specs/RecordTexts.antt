@@ -10,10 +10,10 @@ use Rattle.script.specs.Bytes.{bytes}
 use Rattle.script.specs.LineForms.{tab}
 use Rattle.script.specs.ListingLine.{cell, lineFeed}
 use Rattle.script.specs.Texts.{firstLineOf}
-use Rattle.records.specs.Places.{Place, PartitionEnabled, Mbec, Config, Active, Shared, Register, Tpr, Pending, Enabled, Secure, Reason, From, Rax, Rcx, Word, Mask, places}
+use Rattle.records.specs.Places.{Place, PartitionEnabled, Mbec, Config, Active, Shared, Register, Tpr, Pending, Enabled, Secure, Reason, From, Rax, Rcx, Word, Mask, Intercepts, Cr0Mask, Cr4Mask, places}
 use Rattle.records.specs.Values.{setupAt, number, valueAt}
 
--- A record's word, and its indices.
+-- A record's word, and its indices. Of `crm` the third is 0 for CR0 and 4 for CR4.
 pub record Head : Type 0 where
   pub word : List ℕ
   pub indices : List ℕ
@@ -38,6 +38,9 @@ headOf (Rax v l) = headed (bytes "rax") (v .0 ∷ l .0 ∷ [])
 headOf (Rcx v l) = headed (bytes "rcx") (v .0 ∷ l .0 ∷ [])
 headOf (Word p) = headed (bytes "word") (p .0 ∷ [])
 headOf (Mask p t) = headed (bytes "mask") (p .0 ∷ t .0 ∷ [])
+headOf (Intercepts v l) = headed (bytes "cri") (v .0 ∷ l .0 ∷ [])
+headOf (Cr0Mask v l) = headed (bytes "crm") (v .0 ∷ l .0 ∷ 0 ∷ [])
+headOf (Cr4Mask v l) = headed (bytes "crm") (v .0 ∷ l .0 ∷ 4 ∷ [])
 
 -- Numbers, each with a tab after it.
 unfoldable pub closed : List ℕ → List ℕ

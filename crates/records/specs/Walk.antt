@@ -1,6 +1,6 @@
 -- The walk along the sequence of the records: the place that is due after another. Each definition gives the next place of a loop, or what
 -- follows the loop. Assumes nothing.
-use mathlib.Core.Bool.{cond}
+use mathlib.Core.Bool.{cond, _&&_}
 use Prim.Native.Nat.{ℕ, _+_}
 use lib.Dec.{eqb, ltb, leb}
 use Rattle.model.specs.declared.machine.Setup.{Setup}
@@ -11,10 +11,30 @@ use Rattle.model.specs.State.{level, top}
 use Rattle.script.specs.EventForms.{processor, page}
 pub use Rattle.records.specs.declared.place.Next.{Next}
 pub use Rattle.records.specs.declared.place.Next.the-variants.{At, Done}
-use Rattle.records.specs.Places.{Place, PartitionEnabled, Mbec, Config, Active, Shared, Register, Tpr, Pending, Enabled, Secure, Reason, From, Rax, Rcx, Word, Mask, privateCount}
+pub use Rattle.records.specs.declared.place.Upper.{Upper}
+pub use Rattle.records.specs.declared.place.Upper.the-variants.{On, Nowhere}
+use Rattle.records.specs.Places.{Place, PartitionEnabled, Mbec, Config, Active, Shared, Register, Tpr, Pending, Enabled, Secure, Reason, From, Rax, Rcx, Word, Mask, Intercepts, Cr0Mask, Cr4Mask, privateCount}
+
+-- The levels from 1 of all processors: the first one from a processor on, and from a level of a processor on.
+abbrev pub upperFrom : Setup → ℕ → Upper
+upperFrom setup v = cond (ltb v (setup .processors) && ltb 0 (top (setup .shape))) (On (processor v) (level 1)) Nowhere
+
+unfoldable pub upperAt : Setup → Processor → ℕ → Upper
+upperAt setup v t = cond (leb t (top (setup .shape))) (On v (level t)) (upperFrom setup (v .0 + 1))
+
+-- The place of such a level, or what follows where there is none.
+abbrev pub placed : (Processor → Level → Place) → Next → Upper → Next
+placed place end (On v t) = At (place v t)
+placed place end Nowhere = end
+
+abbrev pub toCrMask : Upper → Next
+toCrMask upper = placed Cr0Mask Done upper
+
+abbrev pub toIntercepts : Setup → Upper → Next
+toIntercepts setup upper = placed Intercepts (toCrMask (upperFrom setup 0)) upper
 
 unfoldable pub toPage : Setup → ℕ → Next
-toPage setup p = cond (ltb p (setup .pages)) (At (Word (page p))) Done
+toPage setup p = cond (ltb p (setup .pages)) (At (Word (page p))) (toIntercepts setup (upperFrom setup 0))
 
 unfoldable pub toMask : Setup → Page → ℕ → Next
 toMask setup p t = cond (leb t (top (setup .shape))) (At (Mask p (level t))) (toPage setup (p .0 + 1))
@@ -62,6 +82,9 @@ nextOf setup (Rax v l) = At (Rcx v l)
 nextOf setup (Rcx v l) = toContext setup v (l .0 + 1)
 nextOf setup (Word p) = toMask setup p 1
 nextOf setup (Mask p t) = toMask setup p (t .0 + 1)
+nextOf setup (Intercepts v t) = toIntercepts setup (upperAt setup v (t .0 + 1))
+nextOf setup (Cr0Mask v t) = At (Cr4Mask v t)
+nextOf setup (Cr4Mask v t) = toCrMask (upperAt setup v (t .0 + 1))
 
 abbrev pub firstDue : Setup → Next
 firstDue setup = toLevel setup 1

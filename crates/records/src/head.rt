@@ -7,6 +7,11 @@ ghost use Rattle.records.specs.RecordTexts.{headOf};
 ghost use Rattle.script.specs.LineForms.{tab};
 use crate::place::Place;
 
+// The third index of `crm`: for CR0 and for CR4.
+const OF_CR0: u64 = 0;
+
+const OF_CR4: u64 = 4;
+
 // A word and its tab, in the first of eight bytes, and how many bytes they take.
 pub struct WordText(pub [u8; 8], pub usize);
 
@@ -38,6 +43,9 @@ pub fn word_of(place: Place) -> WordText
         Place::Rcx(_, _) => WordText(*b"rcx\t    ", 4),
         Place::Word(_) => WordText(*b"word\t   ", 5),
         Place::Mask(_, _) => WordText(*b"mask\t   ", 5),
+        Place::Intercepts(_, _) => WordText(*b"cri\t    ", 4),
+        Place::Cr0Mask(_, _) => WordText(*b"crm\t    ", 4),
+        Place::Cr4Mask(_, _) => WordText(*b"crm\t    ", 4),
     }
 }
 
@@ -94,5 +102,8 @@ pub fn indices_of(place: Place) -> Indices
         Place::Rcx(v, l) => two(v.0, l.0),
         Place::Word(p) => one(p.0),
         Place::Mask(p, t) => two(p.0, t.0),
+        Place::Intercepts(v, l) => two(v.0, l.0),
+        Place::Cr0Mask(v, l) => three(v.0, l.0, OF_CR0),
+        Place::Cr4Mask(v, l) => three(v.0, l.0, OF_CR4),
     }
 }

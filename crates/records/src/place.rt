@@ -34,10 +34,21 @@ pub enum Place {
     Word(Page),
     // `mask`: a level's mask of the page
     Mask(Page, Level),
+    // `cri`: the level's intercept control word (02, request 6)
+    Intercepts(Processor, Level),
+    // `crm` with 0, and with 4: its masks for writes of CR0 and of CR4 (02, request 6)
+    Cr0Mask(Processor, Level),
+    Cr4Mask(Processor, Level),
 }
 
 // The place whose record is due next, if there is one.
 pub enum Next {
     At(Place),
     Done,
+}
+
+// A level from 1 of a processor, if there is one.
+pub enum Upper {
+    On(Processor, Level),
+    Nowhere,
 }

@@ -4,10 +4,12 @@
 ghost use mathlib.Core.Path.{_≡_};
 ghost use Prim.Native.Nat.{_+_};
 ghost use Rattle.records.specs.Places.{privateCount};
+ghost use Rattle.records.specs.Walk.{upperFrom, upperAt, toCrMask, toIntercepts};
 ghost use Rattle.records.specs.Walk.{toPage, toMask, toContexts, toContext, toRegister, toPending, toSecure};
 ghost use Rattle.records.specs.Walk.{toProcessor, toShared, toLevel, nextOf, firstDue};
 use crate::place::Next;
 use crate::place::Place;
+use crate::place::Upper;
 use model::machine::Setup;
 use model::machine::Shape;
 use model::quantity::Level;
@@ -26,13 +28,53 @@ fn private_count(shape: Shape) -> u64
     if shape.dr6_shared { DR6 } else { DR6 + 1 }
 }
 
+// The levels from 1 of all processors: the first one from a processor on, and the one after a level of a processor.
+fn upper_from(setup: Setup, vp: Processor) -> Upper
+    ensures { λ r. ⌜ r ≡ upperFrom setup (vp .0) ⌝ }
+{
+    if (vp.0 < setup.processors) & (0 < setup.shape.max_level.0) {
+        return Upper::On(vp, Level(1));
+    }
+    Upper::Nowhere
+}
+
+fn upper_after(setup: Setup, vp: Processor, level: Level) -> Upper
+    ensures { λ r. ⌜ r ≡ upperAt setup vp (level .0 + 1) ⌝ }
+{
+    if level.0 < setup.shape.max_level.0 {
+        return Upper::On(vp, Level(level.0 + 1));
+    }
+    if vp.0 < setup.processors {
+        return upper_from(setup, Processor(vp.0 + 1));
+    }
+    Upper::Nowhere
+}
+
+fn to_cr_mask(upper: Upper) -> Next
+    ensures { λ r. ⌜ r ≡ toCrMask upper ⌝ }
+{
+    match upper {
+        Upper::On(v, t) => Next::At(Place::Cr0Mask(v, t)),
+        Upper::Nowhere => Next::Done,
+    }
+}
+
+fn to_intercepts(setup: Setup, upper: Upper) -> Next
+    ensures { λ r. ⌜ r ≡ toIntercepts setup upper ⌝ }
+{
+    match upper {
+        Upper::On(v, t) => Next::At(Place::Intercepts(v, t)),
+        Upper::Nowhere => to_cr_mask(upper_from(setup, Processor(0))),
+    }
+}
+
 fn to_page(setup: Setup, page: Page) -> Next
     ensures { λ r. ⌜ r ≡ toPage setup (page .0) ⌝ }
 {
     if page.0 < setup.pages {
         return Next::At(Place::Word(page));
     }
-    Next::Done
+    to_intercepts(setup, upper_from(setup, Processor(0)))
 }
 
 fn after_page(setup: Setup, page: Page) -> Next
@@ -41,7 +83,7 @@ fn after_page(setup: Setup, page: Page) -> Next
     if page.0 < setup.pages {
         return to_page(setup, Page(page.0 + 1));
     }
-    Next::Done
+    to_intercepts(setup, upper_from(setup, Processor(0)))
 }
 
 fn after_mask(setup: Setup, page: Page, level: Level) -> Next
@@ -183,5 +225,8 @@ pub fn next(setup: Setup, place: Place) -> Next
         Place::Rcx(v, l) => after_context(setup, v, l),
         Place::Word(p) => after_mask(setup, p, Level(0)),
         Place::Mask(p, t) => after_mask(setup, p, t),
+        Place::Intercepts(v, t) => to_intercepts(setup, upper_after(setup, v, t)),
+        Place::Cr0Mask(v, t) => Next::At(Place::Cr4Mask(v, t)),
+        Place::Cr4Mask(v, t) => to_cr_mask(upper_after(setup, v, t)),
     }
 }

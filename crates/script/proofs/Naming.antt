@@ -1,6 +1,6 @@
 -- Laws of the word that a line begins with: how it is compared, and that it decides what the line says.
 -- Assumes nothing.
-use Prim.Native.Nat.{ℕ, suc, _+_, _≤_, _<_}
+use Prim.Native.Nat.{ℕ, zero, suc, _+_, _≤_, _<_}
 use mathlib.Core.Bool.{Bool, true, false, not, cond, _&&_}
 use mathlib.Core.List.{List, [], _∷_, map}
 use mathlib.Core.Path.{_≡_, refl, sym, ap, _∙_}
@@ -26,6 +26,10 @@ use Rattle.script.specs.declared.words.Word.{Word}
 use Rattle.script.proofs.FieldPlaces.{fields-first, until-within}
 use Rattle.script.proofs.Same.{differ, every, same-true}
 
+neither : (t : Bool) → (t && false) ≡ false
+neither true = refl
+neither false = refl
+
 -- A line that is shorter than the word does not begin with it.
 pub too-short : (line word : List ℕ) → length line < length word → begun line word ≡ false
 unfolding begun
@@ -33,10 +37,6 @@ too-short [] [] h = absurd (omega arith)
 too-short [] (a ∷ word) h = refl
 too-short (b ∷ line) [] h = absurd (omega arith)
 too-short (b ∷ line) (a ∷ word) h = rw (too-short line word (omega arith)) (neither (eqb b a))
-  where
-    neither : (t : Bool) → (t && false) ≡ false
-    neither true = refl
-    neither false = refl
 
 -- A line and a word from a place on: a byte of each, and the tab after the word.
 module _ (line word : List ℕ) (i : ℕ) where
@@ -156,13 +156,17 @@ unfoldable pub withFirst : ℕ → List Word → List Word
 withFirst byte [] = []
 withFirst byte (word ∷ more) = cond (eqb (getD (formOf word .word) 0 0) byte) (word ∷ withFirst byte more) (withFirst byte more)
 
--- A word that begins with another byte than the line does.
-other-first : (line word : List ℕ) → 0 < length word → (getD word 0 0 ≡ getD line 0 0 → ⊥) → begun line word ≡ false
+-- A word that has another byte than the line at some place, and its first byte above all.
+pub other-at : (line word : List ℕ) (i : ℕ) → i < length word → (getD word i 0 ≡ getD line i 0 → ⊥) → begun line word ≡ false
 unfolding begun
-other-first [] [] h d = absurd (omega arith)
-other-first [] (a ∷ word) h d = refl
-other-first (b ∷ line) [] h d = absurd (omega arith)
-other-first (b ∷ line) (a ∷ word) h d = rw (ne-eqb b a (λ e. d (sym e)))
+other-at [] [] i h d = absurd (omega arith)
+other-at [] (a ∷ word) i h d = refl
+other-at (b ∷ line) [] i h d = absurd (omega arith)
+other-at (b ∷ line) (a ∷ word) zero h d = rw (ne-eqb b a (λ e. d (sym e)))
+other-at (b ∷ line) (a ∷ word) (suc i) h d = rw (other-at line word i (omega arith) d) (neither (eqb b a))
+
+other-first : (line word : List ℕ) → 0 < length word → (getD word 0 0 ≡ getD line 0 0 → ⊥) → begun line word ≡ false
+other-first line word h d = other-at line word 0 h d
 
 -- Only words that begin with the line's first byte come into question.
 abbrev pub hasByte : Word → Bool

@@ -1,11 +1,11 @@
--- The lines of the nineteen events (01, "Events"): each event's word and its fields, in the order of the page.
+-- The lines of the twenty-one events (01, "Events"; 02, request 6): each event's word and its fields, in the order of the page.
 -- An event carries its numbers as given: the event's rule refuses those out of range. Assumes nothing.
 use mathlib.Core.List.{List, [], _∷_, map}
 use Prim.Native.Nat.{ℕ, zero, suc}
 use Rattle.model.specs.State.{level}
 pub use Rattle.model.specs.declared.event.Action.{Action}
 pub use Rattle.model.specs.declared.event.Event.{Event}
-pub use Rattle.model.specs.declared.event.Action.the-variants.{Enpart, Envp, Call, Ret, Read, Write, Fetch, Protect, Config, Secure, Flush, Rreg, Wreg, Tpr, Ack, Pstat, Vstat, Caps}
+pub use Rattle.model.specs.declared.event.Action.the-variants.{Enpart, Envp, Call, Ret, Read, Write, Fetch, Protect, Config, Secure, Flush, Rreg, Wreg, Tpr, Ack, Pstat, Vstat, Caps, Cri, Crm}
 pub use Rattle.model.specs.declared.event.Event.the-variants.{Made, Int}
 use Rattle.model.specs.declared.quantity.Page.{Page}
 use Rattle.model.specs.declared.quantity.Processor.{Processor}
@@ -103,9 +103,16 @@ vstat = record { word = bytes "vstat"; count = 0; value = Vstat }
 abbrev pub caps : Form Action
 caps = record { word = bytes "caps"; count = 0; value = Caps }
 
+-- cri v mode word; crm v mode n mask, n 0 for CR0 and 4 for CR4 (02, request 6)
+abbrev pub cri : Form Action
+cri = record { word = bytes "cri"; count = 1; value = λ word. Cri word }
+
+abbrev pub crm : Form Action
+crm = record { word = bytes "crm"; count = 2; value = λ n mask. Crm n mask }
+
 -- What a level does.
 abbrev pub actions : List (Form Action)
-actions = enpart ∷ envp ∷ call ∷ ret ∷ read ∷ write ∷ fetch ∷ protect ∷ config ∷ secure ∷ flush ∷ rreg ∷ wreg ∷ tpr ∷ ack ∷ pstat ∷ vstat ∷ caps ∷ []
+actions = enpart ∷ envp ∷ call ∷ ret ∷ read ∷ write ∷ fetch ∷ protect ∷ config ∷ secure ∷ flush ∷ rreg ∷ wreg ∷ tpr ∷ ack ∷ pstat ∷ vstat ∷ caps ∷ cri ∷ crm ∷ []
 
 -- int w g vector, from outside
 abbrev pub int : Form Event

@@ -5,14 +5,14 @@ use mathlib.Core.List.{List, [], _∷_, map}
 use Prim.Native.Nat.{ℕ}
 use lib.ListN.{length}
 use Rattle.script.specs.Bytes.{begun}
-use Rattle.script.specs.EventForms.{Action, Event, byLevel, enpart, envp, call, ret, read, write, fetch, protect, config, secure, flush, rreg, wreg, tpr, ack, int, pstat, vstat, caps}
+use Rattle.script.specs.EventForms.{Action, Event, byLevel, enpart, envp, call, ret, read, write, fetch, protect, config, secure, flush, rreg, wreg, tpr, ack, int, pstat, vstat, caps, cri, crm}
 use Rattle.script.specs.LineForms.{Form, made}
 use Rattle.script.specs.declared.words.Named.{Named}
 use Rattle.script.specs.declared.words.Named.the-variants.{As, Nothing}
 use Rattle.script.specs.declared.words.Word.{Word}
 use Rattle.script.specs.declared.words.Word.the-variants.{Interrupt, Made}
 use Rattle.script.specs.declared.words.ActionWord.{ActionWord}
-use Rattle.script.specs.declared.words.ActionWord.the-variants.{Enpart, Envp, Call, Ret, Read, Write, Fetch, Protect, Config, Secure, Flush, Rreg, Wreg, Tpr, Ack, Pstat, Vstat, Caps}
+use Rattle.script.specs.declared.words.ActionWord.the-variants.{Enpart, Envp, Call, Ret, Read, Write, Fetch, Protect, Config, Secure, Flush, Rreg, Wreg, Tpr, Ack, Pstat, Vstat, Caps, Cri, Crm}
 
 -- The form of what a level does, by its word, and of an event.
 abbrev pub actionForm : ActionWord → Form Action
@@ -34,18 +34,24 @@ actionForm Ack = ack
 actionForm Pstat = pstat
 actionForm Vstat = vstat
 actionForm Caps = caps
+actionForm Cri = cri
+actionForm Crm = crm
 
 abbrev pub formOf : Word → Form Event
 formOf (Made word) = byLevel (actionForm word)
 formOf Interrupt = int
 
--- The nineteen words.
+-- The twenty-one words.
 abbrev pub actionWords : List ActionWord
 actionWords =
-    Enpart ∷ Envp ∷ Call ∷ Ret ∷ Read ∷ Write ∷ Fetch ∷ Protect ∷ Config ∷ Secure ∷ Flush ∷ Rreg ∷ Wreg ∷ Tpr ∷ Ack ∷ Pstat ∷ Vstat ∷ Caps ∷ []
+    Enpart ∷ Envp ∷ Call ∷ Ret ∷ Read ∷ Write ∷ Fetch ∷ Protect ∷ Config ∷ Secure ∷ Flush ∷ Rreg ∷ Wreg ∷ Tpr ∷ Ack ∷ Pstat ∷ Vstat ∷ Caps ∷ Cri ∷ Crm ∷ []
 
 abbrev pub words : List Word
 words = Interrupt ∷ map Made actionWords
+
+-- Those that begin with c.
+abbrev pub wordsWithC : List Word
+wordsWithC = map Made (Call ∷ Config ∷ Caps ∷ Cri ∷ Crm ∷ [])
 
 -- A word, where it ends, and how many numbers its event takes.
 abbrev pub naming : Word → Named

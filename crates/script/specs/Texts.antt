@@ -3,8 +3,8 @@
 use mathlib.Core.List.{List, [], _∷_, _++_, map}
 use Prim.Native.Nat.{ℕ, _<_, _^_}
 use Rattle.decimal.specs.Write.{decimal}
-use Rattle.script.specs.EventForms.{Action, Enpart, Envp, Call, Ret, Read, Write, Fetch, Protect, Config, Secure, Flush, Rreg, Wreg, Tpr, Ack, Pstat, Vstat, Caps}
-use Rattle.script.specs.EventForms.{Event, Made, Int, byLevel, enpart, envp, call, ret, read, write, fetch, protect, config, secure, flush, rreg, wreg, tpr, ack, int, pstat, vstat, caps}
+use Rattle.script.specs.EventForms.{Action, Enpart, Envp, Call, Ret, Read, Write, Fetch, Protect, Config, Secure, Flush, Rreg, Wreg, Tpr, Ack, Pstat, Vstat, Caps, Cri, Crm}
+use Rattle.script.specs.EventForms.{Event, Made, Int, byLevel, enpart, envp, call, ret, read, write, fetch, protect, config, secure, flush, rreg, wreg, tpr, ack, int, pstat, vstat, caps, cri, crm}
 use Rattle.script.specs.First.{FirstLine, vsm, vsmShort}
 use Rattle.script.specs.LineForms.{Form, tab}
 
@@ -30,7 +30,7 @@ written text = text .form .word ++ parted (map decimal (text .numbers))
 abbrev pub text : {A : Type 0} → Form A → List ℕ → Text A
 text form numbers = record { form = form; numbers = numbers }
 
--- What a level does, and the line of an event; numbers stand in the order of 01.
+-- What a level does, and the line of an event; numbers stand in the order of 01 and 02.
 unfoldable pub actionText : Action → Text Action
 actionText (Enpart t mbec) = text enpart (t .0 ∷ mbec ∷ [])
 actionText (Envp w t rip rsp cr0) = text envp (w .0 ∷ t .0 ∷ rip ∷ rsp ∷ cr0 ∷ [])
@@ -50,6 +50,8 @@ actionText Ack = text ack []
 actionText Pstat = text pstat []
 actionText Vstat = text vstat []
 actionText Caps = text caps []
+actionText (Cri word) = text cri (word ∷ [])
+actionText (Crm n mask) = text crm (n ∷ mask ∷ [])
 
 unfoldable pub eventText : Event → Text Event
 eventText (Made v mode a) = text (byLevel (actionText a .form)) (v .0 ∷ mode ∷ actionText a .numbers)

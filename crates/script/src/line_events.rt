@@ -1,4 +1,4 @@
-// The event that a word and its numbers say (01, "Events"): the numbers of a line, in the order in which 01 lists an event's fields.
+// The event that a word and its numbers say (01, "Events"; 02, request 6): the numbers of a line, in the order in which an event's fields are listed there.
 ghost use mathlib.Core.Path.{_≡_};
 ghost use Rattle.script.specs.EventWords.{actionOf, eventOf};
 use crate::words::ActionWord;
@@ -64,6 +64,11 @@ fn action(word: ActionWord, values: &[u64; 7]) -> Action
         ActionWord::Pstat => Action::Pstat,
         ActionWord::Vstat => Action::Vstat,
         ActionWord::Caps => Action::Caps,
+        ActionWord::Cri => Action::Cri { word: third },
+        ActionWord::Crm => Action::Crm {
+            control_register: third,
+            mask,
+        },
     }
 }
 

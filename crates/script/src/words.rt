@@ -3,7 +3,7 @@ ghost use mathlib.Core.Bool.{cond};
 ghost use mathlib.Core.Path.{_≡_};
 ghost use lib.ListN.{length};
 ghost use Rattle.script.specs.Bytes.{begun};
-ghost use Rattle.script.specs.EventWords.{namedAmong, words};
+ghost use Rattle.script.specs.EventWords.{namedAmong, words, wordsWithC};
 ghost use Rattle.script.specs.declared.words.Named.the-variants.{As};
 
 // The words of the events that a level makes.
@@ -26,9 +26,11 @@ pub enum ActionWord {
     Pstat,
     Vstat,
     Caps,
+    Cri,
+    Crm,
 }
 
-// The nineteen event words: `int` comes from outside.
+// The twenty-one event words: `int` comes from outside.
 pub enum Word {
     Made(ActionWord),
     Interrupt,
@@ -80,6 +82,23 @@ fn pick(line: &[u8], name: &[u8], word: Word, takes: usize, otherwise: Named) ->
     otherwise
 }
 
+// The same among the words that begin with c. The second byte says whether it can be one of request 6.
+fn word_with_c(line: &[u8]) -> Named
+    ensures { λ r. ⌜ r ≡ namedAmong wordsWithC (now (line .entry)) ⌝ }
+{
+    let none = Named::Nothing;
+    if line.len() < 2 {
+        return none;
+    }
+    if line[1] == b'r' {
+        let crm = pick(line, b"crm", Word::Made(ActionWord::Crm), 4, none);
+        return pick(line, b"cri", Word::Made(ActionWord::Cri), 3, crm);
+    }
+    let caps = pick(line, b"caps", Word::Made(ActionWord::Caps), 2, none);
+    let config = pick(line, b"config", Word::Made(ActionWord::Config), 4, caps);
+    pick(line, b"call", Word::Made(ActionWord::Call), 3, config)
+}
+
 // The event word that a line begins with.
 pub fn word_of(line: &[u8]) -> Named
     ensures { λ r. ⌜ r ≡ namedAmong words (now (line .entry)) ⌝ }
@@ -90,11 +109,7 @@ pub fn word_of(line: &[u8]) -> Named
     let none = Named::Nothing;
     match line[0] {
         b'a' => pick(line, b"ack", Word::Made(ActionWord::Ack), 2, none),
-        b'c' => {
-            let caps = pick(line, b"caps", Word::Made(ActionWord::Caps), 2, none);
-            let config = pick(line, b"config", Word::Made(ActionWord::Config), 4, caps);
-            pick(line, b"call", Word::Made(ActionWord::Call), 3, config)
-        }
+        b'c' => word_with_c(line),
         b'e' => {
             let envp = pick(line, b"envp", Word::Made(ActionWord::Envp), 7, none);
             pick(line, b"enpart", Word::Made(ActionWord::Enpart), 4, envp)

@@ -21,11 +21,11 @@ use Rattle.model.proofs.Bools.{and-right, cond-holds}
 use Rattle.model.proofs.Four.{four-at}
 use Rattle.partition.specs.PartitionView.{configsIn, partitionOf}
 use Rattle.processor.proofs.RecordWords.{row-length}
-use Rattle.processor.specs.Record.{part, rowOf, contextOf, contextIn, vpOf}
+use Rattle.processor.specs.Record.{recordWords, levelWords, intercepts, cr0Mask, cr4Mask, part, rowOf, contextOf, contextIn, vpOf}
 use Rattle.state.proofs.OneState.{Records}
 use Rattle.state.specs.Lent.{machineOf, lent}
 use Rattle.records.specs.declared.place.Place.{Place}
-use Rattle.records.specs.declared.place.Place.the-variants.{PartitionEnabled, Mbec, Config, Active, Shared, Register, Tpr, Pending, Enabled, Secure, Reason, From, Rax, Rcx, Word, Mask}
+use Rattle.records.specs.declared.place.Place.the-variants.{PartitionEnabled, Mbec, Config, Active, Shared, Register, Tpr, Pending, Enabled, Secure, Reason, From, Rax, Rcx, Word, Mask, Intercepts, Cr0Mask, Cr4Mask}
 use Rattle.model.specs.WellFormed.{wellFormed}
 use Rattle.records.proofs.SameBytes.{read-back}
 use Rattle.records.specs.Reading.{passedOn}
@@ -81,6 +81,9 @@ record FitContext (k : Context) : Type 0 where
   from : k .control .from .0 < 2 ^ 64
   rax : k .control .rax < 2 ^ 64
   rcx : k .control .rcx < 2 ^ 64
+  intercepts : k .watch .intercepts < 2 ^ 64
+  cr0-mask : k .watch .«cr0_mask» < 2 ^ 64
+  cr4-mask : k .watch .«cr4_mask» < 2 ^ 64
 
 no-fits : FitContext noContext
 no-fits = record {
@@ -92,6 +95,9 @@ no-fits = record {
   from = omega arith;
   rax = omega arith;
   rcx = omega arith;
+  intercepts = omega arith;
+  cr0-mask = omega arith;
+  cr4-mask = omega arith;
 }
 
 past-fits : FitContext pastContext
@@ -104,6 +110,9 @@ past-fits = record {
   from = omega arith;
   rax = omega arith;
   rcx = omega arith;
+  intercepts = omega arith;
+  cr0-mask = omega arith;
+  cr4-mask = omega arith;
 }
 
 row-fits : (row : List ℕ) → Words row → FitContext (contextOf row)
@@ -117,11 +126,14 @@ row-fits row h = record {
   from = h 23;
   rax = h 24;
   rcx = h 25;
+  intercepts = h intercepts;
+  cr0-mask = h cr0Mask;
+  cr4-mask = h cr4Mask;
 }
 
 in-fits : (ws : List ℕ) → Words ws → (l : ℕ) → FitContext (contextIn ws l)
 unfolding contextIn rowOf
-in-fits ws h l = row-fits (part (22 + 26 * l) 26 ws) (part-fits (22 + 26 * l) 26 ws h)
+in-fits ws h l = row-fits (part (22 + levelWords * l) levelWords ws) (part-fits (22 + levelWords * l) levelWords ws h)
 
 record FitVp (z : Shape) (p : VirtualProcessor) : Type 0 where
   active : p .active .0 < 2 ^ 64
@@ -160,7 +172,7 @@ module _ (z : Shape) where
       each (suc (suc (suc (suc l)))) = past-fits
 
 -- The sizes of a record's parts.
-context-sized : (ws : List ℕ) (l : ℕ) → length ws ≡ 126 → l < 4 → SizedContext (contextIn ws l)
+context-sized : (ws : List ℕ) (l : ℕ) → length ws ≡ recordWords → l < 4 → SizedContext (contextIn ws l)
 unfolding contextIn contextOf
 context-sized ws l n h =
     let size = row-length ws l n h in
@@ -170,7 +182,7 @@ context-sized ws l n h =
       secure = length-take-le 4 (drop 18 (rowOf ws l)) (omega (arith, length-drop 18 (rowOf ws l)));
     }
 
-vp-sized : (ws : List ℕ) → length ws ≡ 126 → SizedVp (vpOf ws)
+vp-sized : (ws : List ℕ) → length ws ≡ recordWords → SizedVp (vpOf ws)
 unfolding vpOf
 vp-sized ws n = record {
   shared = length-take-le 20 (drop 2 ws) (omega (arith, length-drop 2 ws));
@@ -225,6 +237,9 @@ module _ (setup : Setup) (levels masks words : List ℕ) (rows : List (List ℕ)
     value-fits (From v l) = processor-fits (v .0) .contexts (l .0) .from
     value-fits (Rax v l) = processor-fits (v .0) .contexts (l .0) .rax
     value-fits (Rcx v l) = processor-fits (v .0) .contexts (l .0) .rcx
+    value-fits (Intercepts v l) = processor-fits (v .0) .contexts (l .0) .intercepts
+    value-fits (Cr0Mask v l) = processor-fits (v .0) .contexts (l .0) .cr0-mask
+    value-fits (Cr4Mask v l) = processor-fits (v .0) .contexts (l .0) .cr4-mask
     value-fits (Word p) = parts .words-fit (p .0)
     value-fits (Mask p t) = chosen (ltb 0 (t .0) && isLevel (setup .shape) (t .0) && (ltb (p .0) (setup .pages) && ltb (p .0) 64)) (number-fits 256 masks (parts .masks-fit) (4 * p .0 + t .0))
 

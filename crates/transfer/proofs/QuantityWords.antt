@@ -21,10 +21,10 @@ use Rattle.model.proofs.Bools.{and-left, and-right}
 use Rattle.model.proofs.Four.{four-at}
 use Rattle.partition.specs.PartitionView.{enabledIn, mbecIn, configsIn, partitionOf}
 use Rattle.processor.proofs.RecordWords.{row-word}
-use Rattle.processor.specs.Record.{part, rowOf, contextOf, contextIn, vpOf}
+use Rattle.processor.specs.Record.{levelWords, intercepts, cr0Mask, cr4Mask, part, rowOf, contextOf, contextIn, vpOf}
 use Rattle.state.specs.Lent.{machineOf, lent}
 use Rattle.records.specs.declared.place.Place.{Place}
-use Rattle.records.specs.declared.place.Place.the-variants.{PartitionEnabled, Mbec, Config, Active, Shared, Register, Tpr, Pending, Enabled, Secure, Reason, From, Rax, Rcx, Word, Mask}
+use Rattle.records.specs.declared.place.Place.the-variants.{PartitionEnabled, Mbec, Config, Active, Shared, Register, Tpr, Pending, Enabled, Secure, Reason, From, Rax, Rcx, Word, Mask, Intercepts, Cr0Mask, Cr4Mask}
 use Rattle.records.specs.Places.{known, upper, has}
 use Rattle.records.specs.Values.{number, valueAt}
 use Rattle.records.proofs.Limits.{limits}
@@ -65,17 +65,20 @@ module _ (c : Setup) (levels masks : List ℕ) (rows : List (List ℕ)) (words :
   keptAt (Config t) = configIn (c .shape) (configsIn levels) (t .0)
   keptAt (Active v) = getD (row v) 0 0
   keptAt (Shared v r) = getD (row v) (2 + (r - 12)) 0
-  keptAt (Register v l r) = getD (row v) (22 + 26 * l .0 + r) 0
-  keptAt (Tpr v l) = getD (row v) (22 + 26 * l .0 + 13) 0
-  keptAt (Pending v l i) = getD (row v) (22 + 26 * l .0 + (14 + i)) 0
+  keptAt (Register v l r) = getD (row v) (22 + levelWords * l .0 + r) 0
+  keptAt (Tpr v l) = getD (row v) (22 + levelWords * l .0 + 13) 0
+  keptAt (Pending v l i) = getD (row v) (22 + levelWords * l .0 + (14 + i)) 0
   keptAt (Enabled v l) = number (bit (getD (row v) 1 0) (l .0))
-  keptAt (Secure v l k) = getD (row v) (22 + 26 * l .0 + (18 + k .0)) 0
-  keptAt (Reason v l) = getD (row v) (22 + 26 * l .0 + 22) 0
-  keptAt (From v l) = getD (row v) (22 + 26 * l .0 + 23) 0
-  keptAt (Rax v l) = getD (row v) (22 + 26 * l .0 + 24) 0
-  keptAt (Rcx v l) = getD (row v) (22 + 26 * l .0 + 25) 0
+  keptAt (Secure v l k) = getD (row v) (22 + levelWords * l .0 + (18 + k .0)) 0
+  keptAt (Reason v l) = getD (row v) (22 + levelWords * l .0 + 22) 0
+  keptAt (From v l) = getD (row v) (22 + levelWords * l .0 + 23) 0
+  keptAt (Rax v l) = getD (row v) (22 + levelWords * l .0 + 24) 0
+  keptAt (Rcx v l) = getD (row v) (22 + levelWords * l .0 + 25) 0
   keptAt (Word p) = getD words (p .0) 0
   keptAt (Mask p t) = maskIn (c .shape) (c .pages) masks (t .0) (p .0)
+  keptAt (Intercepts v l) = getD (row v) (22 + levelWords * l .0 + intercepts) 0
+  keptAt (Cr0Mask v l) = getD (row v) (22 + levelWords * l .0 + cr0Mask) 0
+  keptAt (Cr4Mask v l) = getD (row v) (22 + levelWords * l .0 + cr4Mask) 0
 
   pub kept : (p : Place) → has c p ≡ true → keptAt p ≡ valueAt S p
   unfolding valueAt has enabledFor mbecFor configOf maskOf partition pages shape machineOf partitionOf active activeOf sharedOf privateOf enabledOn enabledAt inSet secureOf vpOf contextIn contextOf wordOf
@@ -108,5 +111,8 @@ module _ (c : Setup) (levels masks : List ℕ) (rows : List (List ℕ)) (words :
   kept (From v l) h = sym (ap (λ (k : Context). k .control .from .0) (upper-kept v l h (limits c (From v l) h .1)) ∙ row-word (row v) (l .0) 23 (omega arith))
   kept (Rax v l) h = sym (ap (λ (k : Context). k .control .rax) (upper-kept v l h (limits c (Rax v l) h .1)) ∙ row-word (row v) (l .0) 24 (omega arith))
   kept (Rcx v l) h = sym (ap (λ (k : Context). k .control .rcx) (upper-kept v l h (limits c (Rcx v l) h .1)) ∙ row-word (row v) (l .0) 25 (omega arith))
+  kept (Intercepts v l) h = sym (ap (λ (k : Context). k .watch .intercepts) (upper-kept v l h (limits c (Intercepts v l) h .1)) ∙ row-word (row v) (l .0) intercepts (omega arith))
+  kept (Cr0Mask v l) h = sym (ap (λ (k : Context). k .watch .«cr0_mask») (upper-kept v l h (limits c (Cr0Mask v l) h .1)) ∙ row-word (row v) (l .0) cr0Mask (omega arith))
+  kept (Cr4Mask v l) h = sym (ap (λ (k : Context). k .watch .«cr4_mask») (upper-kept v l h (limits c (Cr4Mask v l) h .1)) ∙ row-word (row v) (l .0) cr4Mask (omega arith))
   kept (Word p) h = refl
   kept (Mask p t) h = refl

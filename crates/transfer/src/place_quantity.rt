@@ -5,6 +5,7 @@ ghost use mathlib.Core.Path.{_≡_};
 ghost use Prim.Native.Nat.{_+_, _*_, _<_};
 ghost use lib.ListN.{getD, length};
 ghost use Rattle.word.specs.Field.{bit};
+ghost use Rattle.processor.specs.Record.{levelWords, recordWords};
 ghost use Rattle.records.specs.Places.{has};
 ghost use Rattle.records.specs.Values.{number as numberOf, valueAt};
 ghost use Rattle.state.specs.Lent.{lent};
@@ -28,7 +29,7 @@ use records::place::Place;
 
 // A word of a processor's record.
 fn word_of(vp: &Record, i: u64) -> u64
-    requires { ⌜ i < 126 ⌝ }
+    requires { ⌜ i < recordWords ⌝ }
     ensures { λ r. ⌜ r ≡ getD (now (vp .entry)) i 0 ⌝ }
 {
     let words: &[u64] = vp;
@@ -38,7 +39,7 @@ fn word_of(vp: &Record, i: u64) -> u64
 
 // A word of the record of a processor.
 fn record_word(vps: &[Record; 4], vp: Processor, i: u64) -> u64
-    requires { ⌜ (vp .0 < 4) × (i < 126) ⌝ }
+    requires { ⌜ (vp .0 < 4) × (i < recordWords) ⌝ }
     ensures { λ r. ⌜ r ≡ getD (getD (now (vps .entry)) (vp .0) []) i 0 ⌝ }
 {
     let at = vp.0 as usize;
@@ -47,8 +48,8 @@ fn record_word(vps: &[Record; 4], vp: Processor, i: u64) -> u64
 
 // The word at an offset in the row of a level.
 fn row_word(vps: &[Record; 4], vp: Processor, level: Level, offset: u64) -> u64
-    requires { ⌜ (vp .0 < 4) × (level .0 < 4) × (offset < 26) ⌝ }
-    ensures { λ r. ⌜ r ≡ getD (getD (now (vps .entry)) (vp .0) []) (22 + 26 * level .0 + offset) 0 ⌝ }
+    requires { ⌜ (vp .0 < 4) × (level .0 < 4) × (offset < levelWords) ⌝ }
+    ensures { λ r. ⌜ r ≡ getD (getD (now (vps .entry)) (vp .0) []) (22 + levelWords * level .0 + offset) 0 ⌝ }
 {
     record_word(
         vps,
@@ -108,5 +109,8 @@ pub(crate) fn quantity(
         Place::Rcx(v, l) => row_word(vps, v, l, record::SAVED_RCX),
         Place::Word(p) => page_word(words, p),
         Place::Mask(p, t) => mask_at(shape, setup.pages, masks, t, p),
+        Place::Intercepts(v, l) => row_word(vps, v, l, record::INTERCEPTS),
+        Place::Cr0Mask(v, l) => row_word(vps, v, l, record::CR0_MASK),
+        Place::Cr4Mask(v, l) => row_word(vps, v, l, record::CR4_MASK),
     }
 }

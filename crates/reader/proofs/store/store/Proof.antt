@@ -173,6 +173,39 @@ set-mask-word-requires : tie.Need-set-mask-word-requires
 unfolding Room
 set-mask-word-requires c κs = omega (arith, rw (c .before .before .before .before .place16 .given .1) at (c .before .before .before .before .before .before .pre))
 
+enum-known-place-17 : tie.Need-enum-known-place-17
+enum-known-place-17 c = search needs
+
+in-row-requires-9 : tie.Need-in-row-requires-9
+unfolding Room
+in-row-requires-9 c κs = omega (arith, rw (c .before .before .place17 .given .1) at (c .before .before .before .before .pre))
+
+set-in-requires-11 : tie.Need-set-in-requires-11
+unfolding Room
+set-in-requires-11 c κs = omega (arith, rw (c .before .before .before .place17 .given .1) at (c .before .before .before .before .before .pre), c .in-row9 .ensures)
+
+enum-known-place-18 : tie.Need-enum-known-place-18
+enum-known-place-18 c = search needs
+
+in-row-requires-10 : tie.Need-in-row-requires-10
+unfolding Room
+in-row-requires-10 c κs = omega (arith, rw (c .before .before .place18 .given .1) at (c .before .before .before .before .pre))
+
+set-in-requires-12 : tie.Need-set-in-requires-12
+unfolding Room
+set-in-requires-12 c κs = omega (arith, rw (c .before .before .before .place18 .given .1) at (c .before .before .before .before .before .pre), c .in-row10 .ensures)
+
+enum-known-place-19 : tie.Need-enum-known-place-19
+enum-known-place-19 c = search needs
+
+in-row-requires-11 : tie.Need-in-row-requires-11
+unfolding Room
+in-row-requires-11 c κs = omega (arith, rw (c .before .before .place19 .given .1) at (c .before .before .before .before .pre))
+
+set-in-requires-13 : tie.Need-set-in-requires-13
+unfolding Room
+set-in-requires-13 c κs = omega (arith, rw (c .before .before .before .place19 .given .1) at (c .before .before .before .before .before .pre), c .in-row11 .ensures)
+
 returns : tie.Need-returns
 unfolding slotOf
 returns c = rw (c .before .before .before .place .given .1, c .set-level-flag .ensures)
@@ -237,6 +270,18 @@ returns-16 : tie.Need-returns-16
 unfolding slotOf
 returns-16 c = rw (c .before .before .before .before .before .place16 .given .1, c .set-mask-word .ensures)
 
+returns-17 : tie.Need-returns-17
+unfolding slotOf
+returns-17 c = rw (c .before .before .before .before .place17 .given .1, c .set-in11 .ensures, c .before .in-row9 .ensures .0)
+
+returns-18 : tie.Need-returns-18
+unfolding slotOf
+returns-18 c = rw (c .before .before .before .before .place18 .given .1, c .set-in12 .ensures, c .before .in-row10 .ensures .0)
+
+returns-19 : tie.Need-returns-19
+unfolding slotOf
+returns-19 c = rw (c .before .before .before .before .place19 .given .1, c .set-in13 .ensures, c .before .in-row11 .ensures .0)
+
 pub store-spec : {M : Type 1} → statement M
 store-spec =
     tie.close
@@ -287,6 +332,15 @@ store-spec =
     mul-set-mask-word
     add-set-mask-word
     set-mask-word-requires
+    enum-known-place-17
+    in-row-requires-9
+    set-in-requires-11
+    enum-known-place-18
+    in-row-requires-10
+    set-in-requires-12
+    enum-known-place-19
+    in-row-requires-11
+    set-in-requires-13
     returns
     returns-2
     returns-3
@@ -302,4 +356,7 @@ store-spec =
     returns-13
     returns-14
     returns-15
-    returns-16)
+    returns-16
+    returns-17
+    returns-18
+    returns-19)

@@ -68,6 +68,18 @@ returns-16 : tie.Need-returns-16
 unfolding headOf
 returns-16 c = rw (c .before .before .place16 .given .1) (c .two8 .ensures)
 
+returns-17 : tie.Need-returns-17
+unfolding headOf
+returns-17 c = rw (c .before .before .place17 .given .1) (c .two9 .ensures)
+
+returns-18 : tie.Need-returns-18
+unfolding headOf
+returns-18 c = rw (c .before .before .place18 .given .1) (c .three4 .ensures)
+
+returns-19 : tie.Need-returns-19
+unfolding headOf
+returns-19 c = rw (c .before .before .place19 .given .1) (c .three5 .ensures)
+
 pub indices-of-spec : {M : Type 1} → statement M
 indices-of-spec =
     tie.close
@@ -78,5 +90,7 @@ indices-of-spec =
     (λ c κs. search needs) (λ c. search needs) (λ c κs. search needs) (λ c. search needs) (λ c κs. search needs)
     (λ c. search needs) (λ c κs. search needs) (λ c. search needs) (λ c κs. search needs) (λ c. search needs)
     (λ c κs. search needs) (λ c. search needs) (λ c κs. search needs) (λ c. search needs) (λ c κs. search needs)
-    (λ c. search needs) (λ c κs. search needs) returns returns-2 returns-3 returns-4 returns-5 returns-6 returns-7
-    returns-8 returns-9 returns-10 returns-11 returns-12 returns-13 returns-14 returns-15 returns-16)
+    (λ c. search needs) (λ c κs. search needs) (λ c. search needs) (λ c κs. search needs) (λ c. search needs)
+    (λ c κs. search needs) (λ c. search needs) (λ c κs. search needs) returns returns-2 returns-3 returns-4 returns-5
+    returns-6 returns-7 returns-8 returns-9 returns-10 returns-11 returns-12 returns-13 returns-14 returns-15 returns-16
+    returns-17 returns-18 returns-19)

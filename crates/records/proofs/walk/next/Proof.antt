@@ -68,6 +68,18 @@ returns-16 : tie.Need-returns-16
 unfolding nextOf
 returns-16 c = rw (c .before .before .place16 .given .1) (c .after-mask2 .ensures)
 
+returns-17 : tie.Need-returns-17
+unfolding nextOf
+returns-17 c = rw (c .before .before .before .place17 .given .1, c .to-intercepts .ensures, c .before .upper-after .ensures)
+
+returns-18 : tie.Need-returns-18
+unfolding nextOf
+returns-18 c = rw (c .before .place18 .given .1)
+
+returns-19 : tie.Need-returns-19
+unfolding nextOf
+returns-19 c = rw (c .before .before .before .place19 .given .1, c .to-cr-mask .ensures, c .before .upper-after2 .ensures)
+
 pub next-spec : {M : Type 1} → statement M
 next-spec =
     tie.close
@@ -77,5 +89,7 @@ next-spec =
     (λ c. search needs) (λ c. search needs) (λ c κs. search needs) (λ c. search needs) (λ c κs. search needs)
     (λ c. search needs) (λ c κs. search needs) (λ c. search needs) (λ c. search needs) (λ c. search needs)
     (λ c. search needs) (λ c κs. search needs) (λ c. search needs) (λ c κs. search needs) (λ c. search needs)
-    (λ c κs. search needs) returns returns-2 returns-3 returns-4 returns-5 returns-6 returns-7 returns-8 returns-9
-    returns-10 returns-11 returns-12 returns-13 returns-14 returns-15 returns-16)
+    (λ c κs. search needs) (λ c. search needs) (λ c κs. search needs) (λ c κs. search needs) (λ c. search needs)
+    (λ c. search needs) (λ c κs. search needs) (λ c κs. search needs) returns returns-2 returns-3 returns-4 returns-5
+    returns-6 returns-7 returns-8 returns-9 returns-10 returns-11 returns-12 returns-13 returns-14 returns-15 returns-16
+    returns-17 returns-18 returns-19)

@@ -26,28 +26,28 @@ returns-13 c =
     let no-v = other .0 .1 in
     let no-w = other .1 in
     none-first words _ refl
-    (no-i and no-e and no-e and no-c and no-r and no-r and no-w and no-f and no-p and no-c and no-s and no-f and no-r and no-w and no-t and no-a and no-p and no-v and no-c and done)
+    (no-i and no-e and no-e and no-c and no-r and no-r and no-w and no-f and no-p and no-c and no-s and no-f and no-r and no-w and no-t and no-a and no-p and no-v and no-c and no-c and no-c and done)
 
 pub word-of-spec : {M : Type 1} → statement M
 word-of-spec =
     tie.close
     (tie.spec
-    returns (λ c. search needs) (λ c. search needs) (λ c κs. search needs) (λ c. search needs) (λ c κs. search needs)
-    (λ c. search needs) (λ c κs. search needs) (λ c. search needs) (λ c κs. search needs) (λ c. search needs) (λ c κs. search needs)
+    returns
+    (λ c. search needs) (λ c. search needs) (λ c κs. search needs) (λ c κs. search needs) (λ c. search needs) (λ c κs. search needs)
     (λ c. search needs) (λ c κs. search needs) (λ c. search needs) (λ c κs. search needs) (λ c. search needs) (λ c κs. search needs)
     (λ c. search needs) (λ c κs. search needs) (λ c. search needs) (λ c κs. search needs) (λ c. search needs) (λ c κs. search needs)
     (λ c. search needs) (λ c κs. search needs) (λ c. search needs) (λ c κs. search needs) (λ c. search needs) (λ c κs. search needs)
     (λ c. search needs) (λ c κs. search needs) (λ c. search needs) (λ c κs. search needs) (λ c. search needs) (λ c κs. search needs)
     (λ c. search needs) (λ c κs. search needs) (λ c. search needs) (λ c κs. search needs)
     (λ c. unfold withFirst in rw (c .pick .ensures) (by-first words _ 97 refl (omega arith)))
-    (λ c. unfold withFirst in rw (c .pick4 .ensures, c .before .before .pick3 .ensures, c .before .before .before .before .pick2 .ensures) (by-first words _ 99 refl (omega arith)))
-    (λ c. unfold withFirst in rw (c .pick6 .ensures, c .before .before .pick5 .ensures) (by-first words _ 101 refl (omega arith)))
-    (λ c. unfold withFirst in rw (c .pick8 .ensures, c .before .before .pick7 .ensures) (by-first words _ 102 refl (omega arith)))
-    (λ c. unfold withFirst in rw (c .pick9 .ensures) (by-first words _ 105 refl (omega arith)))
-    (λ c. unfold withFirst in rw (c .pick11 .ensures, c .before .before .pick10 .ensures) (by-first words _ 112 refl (omega arith)))
-    (λ c. unfold withFirst in rw (c .pick14 .ensures, c .before .before .pick13 .ensures, c .before .before .before .before .pick12 .ensures) (by-first words _ 114 refl (omega arith)))
-    (λ c. unfold withFirst in rw (c .pick15 .ensures) (by-first words _ 115 refl (omega arith)))
-    (λ c. unfold withFirst in rw (c .pick16 .ensures) (by-first words _ 116 refl (omega arith)))
-    (λ c. unfold withFirst in rw (c .pick17 .ensures) (by-first words _ 118 refl (omega arith)))
-    (λ c. unfold withFirst in rw (c .pick19 .ensures, c .before .before .pick18 .ensures) (by-first words _ 119 refl (omega arith)))
+    (λ c. unfold withFirst in rw (c .word-with-c .ensures) (by-first words _ 99 refl (omega arith)))
+    (λ c. unfold withFirst in rw (c .pick3 .ensures, c .before .before .pick2 .ensures) (by-first words _ 101 refl (omega arith)))
+    (λ c. unfold withFirst in rw (c .pick5 .ensures, c .before .before .pick4 .ensures) (by-first words _ 102 refl (omega arith)))
+    (λ c. unfold withFirst in rw (c .pick6 .ensures) (by-first words _ 105 refl (omega arith)))
+    (λ c. unfold withFirst in rw (c .pick8 .ensures, c .before .before .pick7 .ensures) (by-first words _ 112 refl (omega arith)))
+    (λ c. unfold withFirst in rw (c .pick11 .ensures, c .before .before .pick10 .ensures, c .before .before .before .before .pick9 .ensures) (by-first words _ 114 refl (omega arith)))
+    (λ c. unfold withFirst in rw (c .pick12 .ensures) (by-first words _ 115 refl (omega arith)))
+    (λ c. unfold withFirst in rw (c .pick13 .ensures) (by-first words _ 116 refl (omega arith)))
+    (λ c. unfold withFirst in rw (c .pick14 .ensures) (by-first words _ 118 refl (omega arith)))
+    (λ c. unfold withFirst in rw (c .pick16 .ensures, c .before .before .pick15 .ensures) (by-first words _ 119 refl (omega arith)))
     returns-13)

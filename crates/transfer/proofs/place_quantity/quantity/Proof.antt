@@ -67,6 +67,15 @@ row-word-requires-8 c κs = omega (arith, lim (c .before .before .before .before
 page-word-requires : tie.Need-page-word-requires
 page-word-requires c κs = omega (arith, lim (c .before .before .before .before .before) (c .before .place15 .given .1))
 
+row-word-requires-9 : tie.Need-row-word-requires-9
+row-word-requires-9 c κs = omega (arith, lim (c .before .before .before .before .before) (c .before .place17 .given .1))
+
+row-word-requires-10 : tie.Need-row-word-requires-10
+row-word-requires-10 c κs = omega (arith, lim (c .before .before .before .before .before) (c .before .place18 .given .1))
+
+row-word-requires-11 : tie.Need-row-word-requires-11
+row-word-requires-11 c κs = omega (arith, lim (c .before .before .before .before .before) (c .before .place19 .given .1))
+
 returns : tie.Need-returns
 returns c = c .number .ensures ∙ ap number (c .before .enabled-for .ensures) ∙ told (c .before .before .before .before .before .before .before) (c .before .before .before .place .given .1)
 
@@ -115,8 +124,17 @@ returns-15 c = c .page-word .ensures ∙ told (c .before .before .before .before
 returns-16 : tie.Need-returns-16
 returns-16 c = c .mask-at .ensures ∙ told (c .before .before .before .before .before .before) (c .before .before .place16 .given .1)
 
+returns-17 : tie.Need-returns-17
+returns-17 c = c .row-word9 .ensures ∙ told (c .before .before .before .before .before .before) (c .before .before .place17 .given .1)
+
+returns-18 : tie.Need-returns-18
+returns-18 c = c .row-word10 .ensures ∙ told (c .before .before .before .before .before .before) (c .before .before .place18 .given .1)
+
+returns-19 : tie.Need-returns-19
+returns-19 c = c .row-word11 .ensures ∙ told (c .before .before .before .before .before .before) (c .before .before .place19 .given .1)
+
 pub quantity-spec : {M : Type 1} → statement M
 quantity-spec =
     tie.close
     (tie.spec
-    (λ c. search needs) (λ c κs. search needs) (λ c κs. search needs) (λ c. search needs) (λ c κs. search needs) (λ c κs. search needs) (λ c. search needs) (λ c κs. search needs) (λ c. search needs) record-word-requires (λ c. search needs) sub-record-word (λ c. search needs) record-word-requires-2 (λ c. search needs) row-word-requires (λ c. search needs) row-word-requires-2 (λ c. search needs) add-row-word row-word-requires-3 (λ c. search needs) is-enabled-requires (λ c. search needs) add-row-word-2 row-word-requires-4 (λ c. search needs) row-word-requires-5 (λ c. search needs) row-word-requires-6 (λ c. search needs) row-word-requires-7 (λ c. search needs) row-word-requires-8 (λ c. search needs) page-word-requires (λ c. search needs) (λ c κs. search needs) returns returns-2 returns-3 returns-4 returns-5 returns-6 returns-7 returns-8 returns-9 returns-10 returns-11 returns-12 returns-13 returns-14 returns-15 returns-16)
+    (λ c. search needs) (λ c κs. search needs) (λ c κs. search needs) (λ c. search needs) (λ c κs. search needs) (λ c κs. search needs) (λ c. search needs) (λ c κs. search needs) (λ c. search needs) record-word-requires (λ c. search needs) sub-record-word (λ c. search needs) record-word-requires-2 (λ c. search needs) row-word-requires (λ c. search needs) row-word-requires-2 (λ c. search needs) add-row-word row-word-requires-3 (λ c. search needs) is-enabled-requires (λ c. search needs) add-row-word-2 row-word-requires-4 (λ c. search needs) row-word-requires-5 (λ c. search needs) row-word-requires-6 (λ c. search needs) row-word-requires-7 (λ c. search needs) row-word-requires-8 (λ c. search needs) page-word-requires (λ c. search needs) (λ c κs. search needs) (λ c. search needs) row-word-requires-9 (λ c. search needs) row-word-requires-10 (λ c. search needs) row-word-requires-11 returns returns-2 returns-3 returns-4 returns-5 returns-6 returns-7 returns-8 returns-9 returns-10 returns-11 returns-12 returns-13 returns-14 returns-15 returns-16 returns-17 returns-18 returns-19)
