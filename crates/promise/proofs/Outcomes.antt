@@ -1,22 +1,24 @@
 -- The outcome of a rule from its answer, and what a rule asks of a state, said of the parts that a function is given. Assumes nothing.
 use mathlib.Core.Path.{_≡_, refl, ap, _∙_}
 use mathlib.Core.Bool.{true, false}
-use mathlib.Core.Option.{Option}
+use mathlib.Core.Option.{Option, some}
 use Prim.Native.Nat.{ℕ}
 use lib.Dec.{leb, ltb}
 use lib.Seq.{set-getD}
 use borrow.Author.Tests.{ltb-true, lt-leb}
 use Rattle.model.proofs.Bools.{and-left, and-right}
-use Rattle.model.specs.declared.answer.Answer.the-variants.{Done, Refused}
+use Rattle.model.specs.declared.answer.Answer.the-variants.{Done, Refused, Intercept}
 use Rattle.model.specs.declared.answer.Refusal.{Refusal}
 use Rattle.model.specs.declared.machine.Partition.{Partition}
 use Rattle.model.specs.declared.machine.Shape.{Shape}
 use Rattle.model.specs.declared.machine.VirtualProcessor.{VirtualProcessor}
+use Rattle.model.specs.declared.quantity.Level.{Level}
 use Rattle.model.specs.Arrays.{stored}
+use Rattle.model.specs.Entry.{enter, byInterrupt}
 use Rattle.model.specs.Events.{Rule}
 use Rattle.model.specs.Masks.{protectsIn, protects}
 use Rattle.model.specs.State.{State, shape, vp, processors, partition, top, maxLevel, inSet, activeOf, active, configIn, configOf, enabledAt, enabledOn, enabledFor, mbecFor, isProcessor, pastVp}
-use Rattle.model.specs.Step.{answerBy, outcome, nextFor}
+use Rattle.model.specs.Step.{answerBy, outcome, intercepted, nextFor}
 use Rattle.model.specs.Updates.{putVp, putPartition, onVp, onPartition}
 use Rattle.promise.specs.Promise.{result, Runs}
 
@@ -44,10 +46,13 @@ module _ (s : State) (by : Option ℕ) (rule : Rule) where
   unfolding nextFor
   done q = rw q
 
-  -- On processor w's record: it stays, or the effect is a change f of it.
+  -- On processor w's record: it stays, where the event is refused or only reads, or the effect is a change f of it.
   module _ {z : Shape} {p : VirtualProcessor} {w : ℕ} (h : Runs z p s w) where
     pub record-stays : {r : Refusal} → answerBy rule ≡ Refused r → outcome s by rule ≡ result (Refused r) (putVp s w p)
     record-stays q = refused q ∙ rw (← h .holds, put-own s w (h .there))
+
+    pub record-read : rule .effect ≡ s → {x : ℕ} → answerBy rule ≡ Done x → outcome s by rule ≡ result (Done x) (putVp s w p)
+    record-read on q = done q ∙ rw (on, ← h .holds, put-own s w (h .there))
 
     pub record-changes : (f : Shape → VirtualProcessor → VirtualProcessor) → rule .effect ≡ onVp s w f
         → {x : ℕ} → answerBy rule ≡ Done x → {q : VirtualProcessor} → q ≡ f z p → outcome s by rule ≡ result (Done x) (putVp s w q)
@@ -63,6 +68,12 @@ module _ (s : State) (by : Option ℕ) (rule : Rule) where
         → {n : ℕ} → answerBy rule ≡ Done n → {y : Partition} → y ≡ f z x → outcome s by rule ≡ result (Done n) (putPartition s y)
     unfolding onPartition
     partition-changes f on a {y} k = done a ∙ rw (on, k, ← shaped, ← keeps)
+
+-- At 9 the maker's processor w enters the receiver.
+pub record-entered : (s : State) (rule : Rule) {z : Shape} {p : VirtualProcessor} {w : ℕ} → Runs z p s w
+    → {l : Level} → answerBy rule ≡ Intercept l → {q : VirtualProcessor} → q ≡ enter z p (l .0) byInterrupt → outcome s (some w) rule ≡ result (Intercept l) (putVp s w q)
+unfolding nextFor intercepted onVp
+record-entered s rule h a k = rw (a, k, ← h .shaped, ← h .holds)
 
 -- What a rule asks of the state, by its shape.
 pub the-maximum : {z : Shape} (s : State) → shape s ≡ z → maxLevel s ≡ z .«max_level» .0

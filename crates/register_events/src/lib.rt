@@ -1,6 +1,7 @@
 // The events on registers, the secure configuration and the TPR of the maker's own processor: rreg, wreg, secure, tpr (01, "Events").
 // Each is given the processor's record, tests the conditions of its rule one after the other and leaves with the first that holds;
-// only then the record changes.
+// only then the record changes. The last condition of rreg and wreg, 9, is that a level watches the register (02, request 6): that level
+// is entered, reason 2, and the register keeps its value.
 ghost use mathlib.Core.Path.{_≡_};
 ghost use mathlib.Core.List.{List};
 ghost use Prim.Native.Nat.{ℕ};
@@ -13,10 +14,12 @@ ghost use Rattle.processor.specs.Record.{vpOf};
 ghost use Rattle.promise.specs.Promise.{result, Runs};
 use model::answer::Answer;
 use model::answer::Refusal;
+use model::machine::BY_INTERRUPT;
 use model::machine::Shape;
 use model::quantity;
 use model::quantity::Level;
 use model::quantity::Mode;
+use model::quantity::NO_LEVEL;
 use model::register::CR0;
 use model::register::LAST_REGISTER;
 use model::register::PROTECTED_BIT;
@@ -30,6 +33,8 @@ use processor::record::enabled_at;
 use processor::record_registers::register_of;
 use processor::record_registers::set_register;
 use processor::secure::set_secure;
+use watch::asking::read_watcher;
+use watch::asking::write_watcher;
 use word::field::has_bit;
 use word::registers::SecureConfig;
 
@@ -74,9 +79,9 @@ pub fn secure(
 }
 
 // rreg: the value is the register.
-pub fn rreg(shape: Shape, vp: &Record, mode: Mode, target: Level, register: u64) -> Answer
+pub fn rreg(shape: Shape, vp: &mut Record, mode: Mode, target: Level, register: u64) -> Answer
     ensures { λ r. ⌜ ((s : State) (v : ℕ) → Runs shape (vpOf (now (vp .entry))) s v
-        → acted s v mode (Rreg target register) ≡ result r s) ⌝ }
+        → acted s v mode (Rreg target register) ≡ result r (putVp s v (vpOf (now (vp .exit))))) ⌝ }
 {
     if quantity::HIGHEST_LEVEL < target.0 {
         return Answer::Refused(Refusal::LevelOutOfRange);
@@ -96,6 +101,11 @@ pub fn rreg(shape: Shape, vp: &Record, mode: Mode, target: Level, register: u64)
     }
     if !enabled_at(shape, vp, target) {
         return Answer::Refused(Refusal::NotEnabledOnProcessor);
+    }
+    let receiver = read_watcher(shape, vp, target, register);
+    if receiver.0 < NO_LEVEL {
+        entry::enter(shape, vp, receiver, BY_INTERRUPT);
+        return Answer::Intercept(receiver);
     }
     Answer::Done(register_of(shape, vp, target, register))
 }
@@ -134,6 +144,11 @@ pub fn wreg(
     }
     if !enabled_at(shape, vp, target) {
         return Answer::Refused(Refusal::NotEnabledOnProcessor);
+    }
+    let receiver = write_watcher(shape, vp, target, register, value);
+    if receiver.0 < NO_LEVEL {
+        entry::enter(shape, vp, receiver, BY_INTERRUPT);
+        return Answer::Intercept(receiver);
     }
     set_register(shape, vp, target, register, value);
     Answer::Done(0)

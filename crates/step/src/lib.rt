@@ -42,6 +42,8 @@ use register_events::secure;
 use register_events::tpr;
 use register_events::wreg;
 use state::well_formed_state::well_formed;
+use watch::cri;
+use watch::crm;
 
 // What a level does: the processor on which it is active, the mode, and the action.
 struct Operation {
@@ -181,7 +183,7 @@ fn acted(
             let held = locked(setup, vps, actor);
             status_events::flush(held, mode)
         }
-        Action::Rreg { target, register } => rreg(shape, &vps[i], mode, target, register),
+        Action::Rreg { target, register } => rreg(shape, &mut vps[i], mode, target, register),
         Action::Wreg {
             target,
             register,
@@ -192,6 +194,11 @@ fn acted(
         Action::Pstat => status_events::pstat(shape, levels, mode),
         Action::Vstat => status_events::vstat(shape, &vps[i], mode),
         Action::Caps => status_events::caps(shape, mode),
+        Action::Cri { word } => cri(shape, &mut vps[i], mode, word),
+        Action::Crm {
+            control_register,
+            mask,
+        } => crm(shape, &mut vps[i], mode, control_register, mask),
     }
 }
 

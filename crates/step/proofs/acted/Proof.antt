@@ -151,7 +151,7 @@ returns-12 : tie.Need-returns-12
 returns-12 c = unchanged (c .before .before .before .before .before) _ (c .before .before .before .enum-told .given .1) (c .flush .ensures _ _ (its-there (c .before .before .before .before .before) _ (c .before .before .before .enum-told .given .1)) (locked-on (c .before .before .before .before .before) _ (c .before .before .before .enum-told .given .1) (c .before .locked .ensures _ _ _)))
 
 returns-13 : tie.Need-returns-13
-returns-13 c = unchanged (c .before .before .before .before .before) _ (c .before .before .before .action11 .given .1) (c .rreg .ensures _ _ (its-runs (c .before .before .before .before .before) _ (c .before .before .before .action11 .given .1)))
+returns-13 c = on-record (c .before .before .before .before .before) _ (c .before .before .before .action11 .given .1) _ (c .rreg .ensures _ _ (its-runs (c .before .before .before .before .before) _ (c .before .before .before .action11 .given .1)))
 
 returns-14 : tie.Need-returns-14
 returns-14 c = on-record (c .before .before .before .before .before) _ (c .before .before .before .action12 .given .1) _ (c .wreg .ensures _ _ (its-runs (c .before .before .before .before .before) _ (c .before .before .before .action12 .given .1)))
@@ -170,6 +170,12 @@ returns-18 c = unchanged (c .before .before .before .before) _ (c .before .befor
 
 returns-19 : tie.Need-returns-19
 returns-19 c = unchanged (c .before .before .before) _ (c .before .enum-told5 .given .1) (c .caps .ensures _ _ (its-shape (c .before .before .before) _ (c .before .enum-told5 .given .1)))
+
+returns-20 : tie.Need-returns-20
+returns-20 c = on-record (c .before .before .before .before .before) _ (c .before .before .before .action14 .given .1) _ (c .cri .ensures _ _ (its-runs (c .before .before .before .before .before) _ (c .before .before .before .action14 .given .1)))
+
+returns-21 : tie.Need-returns-21
+returns-21 c = on-record (c .before .before .before .before .before) _ (c .before .before .before .action15 .given .1) _ (c .crm .ensures _ _ (its-runs (c .before .before .before .before .before) _ (c .before .before .before .action15 .given .1)))
 
 pub acted-spec : {M : Type 1} → statement M
 acted-spec =
@@ -203,6 +209,11 @@ acted-spec =
     (λ c κs. search needs) (λ c. search needs)
     (λ c. record { fits = omega (arith, v-low (c .before .before .before .before)) })
     (λ c. v-low (c .before .before .before .before)) (λ c κs. search needs) (λ c. search needs)
-    (λ c κs. search needs) returns-2 returns-3 returns-4 returns-5 (λ c. search needs) returns-6 (λ c. search needs)
+    (λ c κs. search needs)
+    (λ c. search needs) (λ c. record { fits = omega (arith, v-low (c .before .before .before .before .before)) })
+    (λ c. v-low (c .before .before .before .before .before)) (λ c κs. search needs)
+    (λ c. search needs) (λ c. record { fits = omega (arith, v-low (c .before .before .before .before .before)) })
+    (λ c. v-low (c .before .before .before .before .before)) (λ c κs. search needs)
+    returns-2 returns-3 returns-4 returns-5 (λ c. search needs) returns-6 (λ c. search needs)
     returns-7 (λ c. search needs) returns-8 returns-9 returns-10 returns-11 returns-12 returns-13 returns-14
-    returns-15 returns-16 returns-17 returns-18 returns-19)
+    returns-15 returns-16 returns-17 returns-18 returns-19 returns-20 returns-21)
