@@ -5,7 +5,9 @@
 ghost use mathlib.Core.Path.{_≡_};
 ghost use mathlib.Core.List.{List};
 ghost use Prim.Native.Nat.{ℕ};
+ghost use Rattle.model.specs.declared.answer.Answer.the-variants.{Intercept};
 ghost use Rattle.model.specs.declared.event.Action.the-variants.{Secure, Rreg, Wreg, Tpr};
+ghost use Rattle.model.specs.Entry.{enter, byInterrupt};
 ghost use Rattle.model.specs.State.{State, partition as partitionIn};
 ghost use Rattle.model.specs.Step.{acted};
 ghost use Rattle.model.specs.Updates.{putVp};
@@ -78,6 +80,16 @@ pub fn secure(
     Answer::Done(0)
 }
 
+// 9: the level that watches the register is entered, and nothing else changes.
+fn intercept(shape: Shape, vp: &mut Record, receiver: Level) -> Answer
+    ensures answer { λ r. ⌜ r ≡ Intercept receiver ⌝ }
+    ensures entered { λ _. ⌜ vpOf (now (vp .exit))
+        ≡ enter shape (vpOf (now (vp .entry))) (receiver .0) byInterrupt ⌝ }
+{
+    entry::enter(shape, vp, receiver, BY_INTERRUPT);
+    Answer::Intercept(receiver)
+}
+
 // rreg: the value is the register.
 pub fn rreg(shape: Shape, vp: &mut Record, mode: Mode, target: Level, register: u64) -> Answer
     ensures { λ r. ⌜ ((s : State) (v : ℕ) → Runs shape (vpOf (now (vp .entry))) s v
@@ -104,8 +116,7 @@ pub fn rreg(shape: Shape, vp: &mut Record, mode: Mode, target: Level, register: 
     }
     let receiver = read_watcher(shape, vp, target, register);
     if receiver.0 < NO_LEVEL {
-        entry::enter(shape, vp, receiver, BY_INTERRUPT);
-        return Answer::Intercept(receiver);
+        return intercept(shape, vp, receiver);
     }
     Answer::Done(register_of(shape, vp, target, register))
 }
@@ -147,8 +158,7 @@ pub fn wreg(
     }
     let receiver = write_watcher(shape, vp, target, register, value);
     if receiver.0 < NO_LEVEL {
-        entry::enter(shape, vp, receiver, BY_INTERRUPT);
-        return Answer::Intercept(receiver);
+        return intercept(shape, vp, receiver);
     }
     set_register(shape, vp, target, register, value);
     Answer::Done(0)

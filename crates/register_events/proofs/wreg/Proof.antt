@@ -1,5 +1,5 @@
 -- `wreg` meets its contract: the tests of its rule in their order, and then its effect. Assumes nothing.
-use mathlib.Core.Path.{refl}
+use mathlib.Core.Path.{refl, _∙_}
 use mathlib.Core.Option.{some}
 use borrow.Author.Tests.{lt-ltb, le-ltb}
 use Rattle.model.specs.Answers.{firstOf}
@@ -58,7 +58,7 @@ returns-8 c s v h =
     let a = c .before .before .before .before .before .before .before .before .before .before .before .before .before .before .before .before .before .before .before .before .before .before .before .before .before .args in
     record-entered s (ruleOf s v (a .mode) (Wreg (a .target) (a .register) (a .value))) h {l = c .before .before .before .before .write-watcher .result}
     (rw (the-maximum s (h .shaped), the-actor h, the-enabled-on h, h .shaped, h .holds, le-ltb _ _ (c .before .before .before .before .before .before .before .before .before .before .before .before .before .before .before .before .before .before .before .before .before .before .before .if1 .left), le-ltb _ _ (c .before .before .before .before .before .before .before .before .before .before .before .before .before .before .before .before .before .before .before .before .before .before .if2 .left), ← c .before .before .before .before .before .before .before .before .before .before .before .before .before .before .before .before .before .before .before .before .before .has-bit .ensures, c .before .before .before .before .before .before .before .before .before .before .before .before .before .before .before .before .before .before .before .if3 .left, ← c .before .before .before .before .before .before .before .before .before .before .before .before .before .before .before .before .before .before .is-user .ensures, c .before .before .before .before .before .before .before .before .before .before .before .before .before .before .before .before .before .if4 .left, le-ltb _ _ (c .before .before .before .before .before .before .before .before .before .before .before .before .before .before .if5 .left), ← c .before .before .before .before .before .before .before .before .before .before .before .before .active-of .ensures, le-ltb _ _ (c .before .before .before .before .before .before .before .before .before .if6 .left), ← c .before .before .before .before .before .before .before .enabled-at .ensures, c .before .before .before .before .before .before .if7 .left, ← c .before .before .before .before .write-watcher .ensures, lt-ltb _ _ (c .before .before .if8 .taken)))
-    (c .enter .ensures)
+    (c .intercept .ensures .1) ∙ rw (c .intercept .ensures .0)
 
 returns-9 : tie.Need-returns-9
 unfolding acted ruleOf firstOf
