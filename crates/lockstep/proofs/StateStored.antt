@@ -1,7 +1,7 @@
 -- The words of a machine after its parts were stored: they are the words of the state, and they stand for it. Assumes nothing.
 use mathlib.Core.List.{List, [], _∷_, _++_, append-assoc}
 use mathlib.Core.Path.{_≡_, refl, sym, ap, _∙_}
-use Prim.Native.Nat.{ℕ, suc, _+_, _≤_, _<_, min}
+use Prim.Native.Nat.{ℕ, suc, _+_, _*_, _≤_, _<_, min}
 use native.Mathlib.Omega.{arith}
 use lib.ListN.{getD, length, length-append, set, take, drop}
 use lib.Seq.{drop-at, getD-set-other, length-sets, length-take-le, set-comm, sets, sets-eq, take-at}
@@ -73,7 +73,7 @@ module _ (ws : List ℕ) (levels masks : List ℕ) (vps : List (List ℕ)) (word
   abbrev parts : List ℕ
   parts = levels ++ masks ++ flat vps
 
-  flat-length : length (flat vps) ≡ 504
+  flat-length : length (flat vps) ≡ 4 * recordWords
   flat-length =
       omega (
         arith,
