@@ -1,23 +1,26 @@
 -- The definitions of crate `model` that read or change one word of a level, by the words of the record: private registers, TPR,
 -- pending vectors, secure words, control records and watched registers (01, "The bench model"). Assumes nothing.
-use mathlib.Core.Path.{_≡_, refl, _∙_}
+use mathlib.Core.Path.{_≡_, refl, sym, _∙_}
+use mathlib.Core.Bool.{true, _&&_}
 use mathlib.Core.List.{List}
-use Prim.Native.Nat.{ℕ, _+_, _≤_, _<_}
+use Prim.Native.Nat.{ℕ, _+_, _*_, _≤_, _<_}
 use native.Mathlib.Omega.{arith}
+use lib.Dec.{eqb}
 use lib.ListN.{getD, replicate, length, getD-replicate}
-use borrow.Author.Tests.{lt-ltb, lt-leb, ne-eqb}
+use borrow.Author.Tests.{lt-ltb, lt-leb, ne-eqb, eqb-true}
 use Rattle.word.specs.Field.{put}
 use Rattle.model.specs.declared.machine.Context.{Context}
 use Rattle.model.specs.declared.machine.Control.{Control}
 use Rattle.model.specs.declared.machine.Shape.{Shape}
 use Rattle.model.specs.declared.machine.VirtualProcessor.{VirtualProcessor}
 use Rattle.model.specs.declared.machine.Watch.{Watch}
+use Rattle.model.proofs.Bools.{and-left, and-right, cond-same}
 use Rattle.model.proofs.Four.{below-four}
 use Rattle.model.specs.Arrays.{numberAt, stored}
 use Rattle.model.specs.Registers.{privateOf}
-use Rattle.model.specs.State.{context, noContext, lockBit}
+use Rattle.model.specs.State.{context, isLevel, noContext, lockBit}
 use Rattle.model.specs.Updates.{withPending, withSecure, setPrivate, setSecure, setWatch, cleared, unlocked}
-use Rattle.processor.specs.Record.{intercepts, cr0Mask, cr4Mask, levelWords, part, contextOf, vpOf, wordIn, updated, altered, wordPut, lockCleared, controlSet}
+use Rattle.processor.specs.Record.{intercepts, cr0Mask, cr4Mask, levels, levelWords, part, contextOf, vpOf, wordIn, updated, altered, wordPut, lockCleared, controlSet}
 use Rattle.processor.proofs.RecordWords.{part-read, field-read, altered-again}
 
 -- Words that are read.
@@ -63,6 +66,19 @@ module _ (z : Shape) (ws : List ℕ) (l : ℕ) where
       let cr0 = b ∙ field-read (λ c. c .watch .«cr0_mask») cr0Mask (omega arith) refl (λ row. refl) z ws l in
       let cr4 = c ∙ field-read (λ c. c .watch .«cr4_mask») cr4Mask (omega arith) refl (λ row. refl) z ws l in
       λ i. record { intercepts = word i; «cr0_mask» = cr0 i; «cr4_mask» = cr4 i }
+
+-- The intercept control words of levels 1 to 3, where all are 0.
+pub words-zero : (ws : List ℕ) → (eqb (getD ws 77 0) 0 && eqb (getD ws 106 0) 0 && eqb (getD ws 135 0) 0) ≡ true
+    → (z : Shape) (t : ℕ) → 0 < t → t < 4 → context z (vpOf ws) t .watch .intercepts ≡ 0
+unfolding contextOf
+words-zero ws e z t h k =
+    let first = eqb (getD ws 77 0) 0 && eqb (getD ws 106 0) 0 in
+    let one = eqb-true _ _ (and-left (eqb (getD ws 77 0) 0) _ (and-left first _ e)) in
+    let two = eqb-true _ _ (and-right (eqb (getD ws 77 0) 0) _ (and-left first _ e)) in
+    let three = eqb-true _ _ (and-right first _ e) in
+    let word : getD ws (levels + levelWords * t + intercepts) 0 ≡ 0 =
+    below-four (λ n. 0 < n → getD ws (levels + levelWords * n + intercepts) 0 ≡ 0) (λ l. absurd (omega arith)) (λ l. one) (λ l. two) (λ l. three) t k h in
+    sym (field-read (λ c. c .watch .intercepts) intercepts (omega arith) refl (λ row. refl) z ws t) ∙ rw word (cond-same (isLevel z t) 0)
 
 -- A word that is stored: which field of the context it is.
 module _ (z : Shape) (p : VirtualProcessor) (l : ℕ) where

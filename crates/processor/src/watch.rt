@@ -1,6 +1,9 @@
 // What a level asks to be told of the registers of lower levels (02, request 6): its intercept control word, and its masks for writes of
 // CR0 and of CR4.
+ghost use mathlib.Core.Bool.{true};
 ghost use mathlib.Core.Path.{_≡_};
+ghost use Prim.Native.Nat.{ℕ, _<_};
+ghost use Rattle.model.specs.declared.machine.Shape.{Shape};
 ghost use Rattle.model.specs.State.{context};
 ghost use Rattle.model.specs.Updates.{setWatch};
 ghost use Rattle.model.specs.Watching.{interceptReservedSet};
@@ -33,6 +36,21 @@ pub fn watch_of(shape: Shape, vp: &Record, level: Level) -> Watch
         cr0_mask: record::level_word(shape, vp, level, record::CR0_MASK),
         cr4_mask: record::level_word(shape, vp, level, record::CR4_MASK),
     }
+}
+
+// Where the intercept control words of levels 1 to 3 stand in a record.
+const WORD_OF_ONE: usize = (record::LEVELS + record::LEVEL_WORDS + record::INTERCEPTS) as usize;
+
+const WORD_OF_TWO: usize = WORD_OF_ONE + record::LEVEL_WORDS as usize;
+
+const WORD_OF_THREE: usize = WORD_OF_TWO + record::LEVEL_WORDS as usize;
+
+// Is no bit set in the word of any level above 0? It costs a look at three words; where it is false, a level has to be asked.
+pub fn none_watches(vp: &Record) -> bool
+    ensures { λ r. ⌜ (r ≡ true → (z : Shape) (t : ℕ) → 0 < t → t < 4
+        → context z (vpOf (now (vp .entry))) t .watch .intercepts ≡ 0) ⌝ }
+{
+    (vp[WORD_OF_ONE] == 0) & (vp[WORD_OF_TWO] == 0) & (vp[WORD_OF_THREE] == 0)
 }
 
 // Sets the word and the masks of a level; beyond M nothing changes.
