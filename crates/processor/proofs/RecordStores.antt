@@ -3,7 +3,7 @@
 use mathlib.Core.Path.{_≡_, refl, sym, _∙_}
 use mathlib.Core.Bool.{true, _&&_}
 use mathlib.Core.List.{List}
-use Prim.Native.Nat.{ℕ, _+_, _*_, _≤_, _<_}
+use Prim.Native.Nat.{ℕ, _+_, _≤_, _<_}
 use native.Mathlib.Omega.{arith}
 use lib.Dec.{eqb}
 use lib.ListN.{getD, replicate, length, getD-replicate}
@@ -20,7 +20,7 @@ use Rattle.model.specs.Arrays.{numberAt, stored}
 use Rattle.model.specs.Registers.{privateOf}
 use Rattle.model.specs.State.{context, isLevel, noContext, lockBit}
 use Rattle.model.specs.Updates.{withPending, withSecure, setPrivate, setSecure, setWatch, cleared, unlocked}
-use Rattle.processor.specs.Record.{intercepts, cr0Mask, cr4Mask, levels, levelWords, part, contextOf, vpOf, wordIn, updated, altered, wordPut, lockCleared, controlSet}
+use Rattle.processor.specs.Record.{intercepts, cr0Mask, cr4Mask, interceptsOf, noneWatches, levelWords, part, contextOf, vpOf, wordIn, updated, altered, wordPut, lockCleared, controlSet}
 use Rattle.processor.proofs.RecordWords.{part-read, field-read, altered-again}
 
 -- Words that are read.
@@ -68,16 +68,14 @@ module _ (z : Shape) (ws : List ℕ) (l : ℕ) where
       λ i. record { intercepts = word i; «cr0_mask» = cr0 i; «cr4_mask» = cr4 i }
 
 -- The intercept control words of levels 1 to 3, where all are 0.
-pub words-zero : (ws : List ℕ) → (eqb (getD ws 77 0) 0 && eqb (getD ws 106 0) 0 && eqb (getD ws 135 0) 0) ≡ true
-    → (z : Shape) (t : ℕ) → 0 < t → t < 4 → context z (vpOf ws) t .watch .intercepts ≡ 0
+pub words-zero : (ws : List ℕ) → noneWatches ws ≡ true → (z : Shape) (t : ℕ) → 0 < t → t < 4 → context z (vpOf ws) t .watch .intercepts ≡ 0
 unfolding contextOf
 words-zero ws e z t h k =
-    let first = eqb (getD ws 77 0) 0 && eqb (getD ws 106 0) 0 in
-    let one = eqb-true _ _ (and-left (eqb (getD ws 77 0) 0) _ (and-left first _ e)) in
-    let two = eqb-true _ _ (and-right (eqb (getD ws 77 0) 0) _ (and-left first _ e)) in
+    let first = eqb (interceptsOf ws 1) 0 && eqb (interceptsOf ws 2) 0 in
+    let one = eqb-true _ _ (and-left (eqb (interceptsOf ws 1) 0) _ (and-left first _ e)) in
+    let two = eqb-true _ _ (and-right (eqb (interceptsOf ws 1) 0) _ (and-left first _ e)) in
     let three = eqb-true _ _ (and-right first _ e) in
-    let word : getD ws (levels + levelWords * t + intercepts) 0 ≡ 0 =
-    below-four (λ n. 0 < n → getD ws (levels + levelWords * n + intercepts) 0 ≡ 0) (λ l. absurd (omega arith)) (λ l. one) (λ l. two) (λ l. three) t k h in
+    let word : interceptsOf ws t ≡ 0 = below-four (λ n. 0 < n → interceptsOf ws n ≡ 0) (λ l. absurd (omega arith)) (λ l. one) (λ l. two) (λ l. three) t k h in
     sym (field-read (λ c. c .watch .intercepts) intercepts (omega arith) refl (λ row. refl) z ws t) ∙ rw word (cond-same (isLevel z t) 0)
 
 -- A word that is stored: which field of the context it is.

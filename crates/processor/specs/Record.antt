@@ -3,7 +3,7 @@
 -- for each level follows: registers 0 to 12, the TPR class, four words of pending vectors, the configuration of four lower
 -- levels, the control record (reason, level left, RAX, RCX), and what it asks to be told of registers (its intercept control word, its
 -- masks for CR0 and CR4). src/record.rt has the same constants. Assumes nothing.
-use mathlib.Core.Bool.{cond}
+use mathlib.Core.Bool.{Bool, cond, _&&_}
 use mathlib.Core.List.{List, [], _∷_, _++_}
 use mathlib.Core.Path.{_≡_}
 use Prim.Native.Nat.{ℕ, _+_, _-_, _*_, _<_}
@@ -160,6 +160,13 @@ controlSet z p l k = putContext z p l (withControl (context z p l) k)
 abbrev pub startedRow : ℕ → ℕ → ℕ → ℕ → ℕ → ℕ → ℕ → Watch → List ℕ
 startedRow ip sp cr first second third fourth w =
     ip ∷ sp ∷ 0 ∷ cr ∷ replicate 14 0 ++ first ∷ second ∷ third ∷ fourth ∷ replicate 4 0 ++ w .intercepts ∷ w .«cr0_mask» ∷ w .«cr4_mask» ∷ []
+
+-- The intercept control word that a level's row holds; and no bit is set in those of levels 1 to 3, whatever the maximum level is.
+abbrev pub interceptsOf : List ℕ → ℕ → ℕ
+interceptsOf ws l = getD ws (levels + levelWords * l + intercepts) 0
+
+abbrev pub noneWatches : List ℕ → Bool
+noneWatches ws = eqb (interceptsOf ws 1) 0 && eqb (interceptsOf ws 2) 0 && eqb (interceptsOf ws 3) 0
 
 -- The words ws′ differ from ws in level l's row alone.
 pub record Within (l : ℕ) (ws ws′ : List ℕ) : Type 0 where

@@ -1,13 +1,10 @@
 // What a level asks to be told of the registers of lower levels (02, request 6): its intercept control word, and its masks for writes of
 // CR0 and of CR4.
-ghost use mathlib.Core.Bool.{true};
 ghost use mathlib.Core.Path.{_≡_};
-ghost use Prim.Native.Nat.{ℕ, _<_};
-ghost use Rattle.model.specs.declared.machine.Shape.{Shape};
 ghost use Rattle.model.specs.State.{context};
 ghost use Rattle.model.specs.Updates.{setWatch};
 ghost use Rattle.model.specs.Watching.{interceptReservedSet};
-ghost use Rattle.processor.specs.Record.{vpOf};
+ghost use Rattle.processor.specs.Record.{vpOf, noneWatches};
 use crate::record;
 use crate::record::Record;
 use model::machine::Shape;
@@ -47,8 +44,7 @@ const WORD_OF_THREE: usize = WORD_OF_TWO + record::LEVEL_WORDS as usize;
 
 // Is no bit set in the word of any level above 0? It costs a look at three words; where it is false, a level has to be asked.
 pub fn none_watches(vp: &Record) -> bool
-    ensures { λ r. ⌜ (r ≡ true → (z : Shape) (t : ℕ) → 0 < t → t < 4
-        → context z (vpOf (now (vp .entry))) t .watch .intercepts ≡ 0) ⌝ }
+    ensures { λ r. ⌜ r ≡ noneWatches (now (vp .entry)) ⌝ }
 {
     (vp[WORD_OF_ONE] == 0) & (vp[WORD_OF_TWO] == 0) & (vp[WORD_OF_THREE] == 0)
 }
