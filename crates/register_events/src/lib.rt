@@ -35,6 +35,7 @@ use processor::record::enabled_at;
 use processor::record_registers::register_of;
 use processor::record_registers::set_register;
 use processor::secure::set_secure;
+use processor::watch::none_watches;
 use watch::asking::read_watcher;
 use watch::asking::write_watcher;
 use word::field::has_bit;
@@ -114,7 +115,10 @@ pub fn rreg(shape: Shape, vp: &mut Record, mode: Mode, target: Level, register: 
     if !enabled_at(shape, vp, target) {
         return Answer::Refused(Refusal::NotEnabledOnProcessor);
     }
-    let receiver = read_watcher(shape, vp, target, register);
+    let mut receiver = Level(NO_LEVEL);
+    if !none_watches(vp) {
+        receiver = read_watcher(shape, vp, target, register);
+    }
     if receiver.0 < NO_LEVEL {
         return intercept(shape, vp, receiver);
     }
@@ -156,7 +160,10 @@ pub fn wreg(
     if !enabled_at(shape, vp, target) {
         return Answer::Refused(Refusal::NotEnabledOnProcessor);
     }
-    let receiver = write_watcher(shape, vp, target, register, value);
+    let mut receiver = Level(NO_LEVEL);
+    if !none_watches(vp) {
+        receiver = write_watcher(shape, vp, target, register, value);
+    }
     if receiver.0 < NO_LEVEL {
         return intercept(shape, vp, receiver);
     }

@@ -1,6 +1,6 @@
 // Which level is told of an access to a register (02, request 6): the lowest one above the actor that is enabled on the processor and asks.
-// A level with no bit set in its word asks for nothing, so the table is searched only for one that has a bit set, and where no level
-// has one, three words are looked at and nothing else.
+// A level with no bit set in its word asks for nothing, so the table is searched only for one that has a bit set. A caller for whom that
+// is seldom asks `none_watches` of crate `processor` first.
 ghost use mathlib.Core.Bool.{_&&_};
 ghost use mathlib.Core.Path.{_≡_};
 ghost use lib.Dec.{ltb};
@@ -19,7 +19,6 @@ use processor::record::Record;
 use processor::record::active_of;
 use processor::record::enabled_at;
 use processor::record_registers::register_of;
-use processor::watch::none_watches;
 use processor::watch::watch_of;
 
 // An access to a register: a read, or a write of a new value in the place of the old.
@@ -114,9 +113,6 @@ fn watcher(shape: Shape, vp: &Record, target: Level, access: RegisterAccess) -> 
 pub fn read_watcher(shape: Shape, vp: &Record, target: Level, register: u64) -> Level
     ensures { λ r. ⌜ r .0 ≡ watcher shape (vpOf (now (vp .entry))) (target .0) (asksRead register) ⌝ }
 {
-    if none_watches(vp) {
-        return Level(NO_LEVEL);
-    }
     watcher(shape, vp, target, RegisterAccess::Read { register })
 }
 
@@ -126,9 +122,6 @@ pub fn write_watcher(shape: Shape, vp: &Record, target: Level, register: u64, va
         r .0
         ≡ watcher shape p (target .0) (asksWrite register (registerOf shape p (target .0) register) value)) ⌝ }
 {
-    if none_watches(vp) {
-        return Level(NO_LEVEL);
-    }
     let old = register_of(shape, vp, target, register);
     let access = RegisterAccess::Write {
         register,
