@@ -25,7 +25,7 @@
 /* No sheet or verdict of xalevinda_explain is longer, its line feeds included. */
 #define XALEVINDA_LONGEST_EXPLANATION 261
 /* How many words of 64 bits a machine takes, and how many xalevinda_step shows. */
-#define XALEVINDA_MACHINE_WORDS 916
+#define XALEVINDA_MACHINE_WORDS 884
 #define XALEVINDA_SHOWN_WORDS 3
 
 #ifdef __cplusplus
@@ -103,10 +103,7 @@ enum xalevinda_reason {
     XALEVINDA_REASON_INTERRUPT_FLAG_CLEAR = 59,       /* ack: RFLAGS bit 9 is clear */
     XALEVINDA_REASON_TARGET_GUARDED = 60,             /* envp: the target is enabled on a processor, and the actor is below it */
     XALEVINDA_REASON_NO_SUCH_MASK = 61,               /* crm: a mask for neither CR0 nor CR4 */
-    XALEVINDA_REASON_WATCH_AT_LEVEL_ZERO = 62,        /* cri, crm: level 0 is active */
-    XALEVINDA_REASON_HOST_LATE = 63,                  /* host: it comes late, as always in lockstep and after records */
-    XALEVINDA_REASON_VINA_VECTOR_TOO_LOW = 64,        /* vina: an enabled word with a vector below 16 */
-    XALEVINDA_REASON_VINA_AT_LEVEL_ZERO = 65          /* vina, vclear: level 0 is active */
+    XALEVINDA_REASON_WATCH_AT_LEVEL_ZERO = 62         /* cri, crm: level 0 is active */
 };
 
 /* The words that xalevinda_step shows. */
@@ -118,15 +115,14 @@ enum xalevinda_shown {
 
 /* The registers of document 001 whose words have fields. The fields that are not reserved are numbered from 0 in this order. */
 enum xalevinda_register {
-    XALEVINDA_CAPABILITIES = 0,         /* DenyLowerVtlStartup, MbecVtlMask, Dr6Shared */
-    XALEVINDA_PARTITION_STATUS = 1,     /* EnabledVtlSet, MaximumVtl, MbecEnabledVtlSet */
-    XALEVINDA_VP_STATUS = 2,            /* ActiveVtl, ActiveMbecEnabled, EnabledVtlSet */
-    XALEVINDA_PARTITION_CONFIG = 3,     /* EnableVtlProtection, DefaultVtlProtectionMask, ZeroMemoryOnReset, DenyLowerVtlStartup,
-                                           InterceptVpStartup */
-    XALEVINDA_SECURE_CONFIG = 4,        /* MbecEnabled, TlbLocked */
-    XALEVINDA_CODE_PAGE_OFFSETS = 5,    /* VtlCallOffset, VtlReturnOffset */
-    XALEVINDA_CR_INTERCEPT_CONTROL = 6, /* 25 fields of one bit each, from Cr0Write to MsrSgxLaunchControlWrite: field n is bit n */
-    XALEVINDA_VINA = 7                  /* Vector, Enabled, AutoReset, AutoEoi, and the 53 preserved bits */
+    XALEVINDA_CAPABILITIES = 0,        /* DenyLowerVtlStartup, MbecVtlMask, Dr6Shared */
+    XALEVINDA_PARTITION_STATUS = 1,    /* EnabledVtlSet, MaximumVtl, MbecEnabledVtlSet */
+    XALEVINDA_VP_STATUS = 2,           /* ActiveVtl, ActiveMbecEnabled, EnabledVtlSet */
+    XALEVINDA_PARTITION_CONFIG = 3,    /* EnableVtlProtection, DefaultVtlProtectionMask, ZeroMemoryOnReset, DenyLowerVtlStartup,
+                                          InterceptVpStartup */
+    XALEVINDA_SECURE_CONFIG = 4,       /* MbecEnabled, TlbLocked */
+    XALEVINDA_CODE_PAGE_OFFSETS = 5,   /* VtlCallOffset, VtlReturnOffset */
+    XALEVINDA_CR_INTERCEPT_CONTROL = 6 /* 25 fields of one bit each, from Cr0Write to MsrSgxLaunchControlWrite: field n is bit n */
 };
 
 /* Writes the listing of a script at the start of `out`: all of it, or nothing where `out_length` is too short. Returns how many bytes

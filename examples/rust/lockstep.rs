@@ -55,17 +55,8 @@ fn listed(script: &[u8]) -> Result<(Vec<u8>, usize), String> {
     Ok((listing, lines.len() - 1))
 }
 
-/// Whether the first field of a line is `host`.
-pub fn is_host(line: &[u8]) -> bool {
-    line == b"host" || line.starts_with(b"host\t")
-}
-
-/// A script in lockstep gives its stored listing. Returns how many lines were answered. A script that begins with host lines is left out: in lockstep
-/// every host line is late.
+/// A script in lockstep gives its stored listing. Returns how many lines were answered.
 pub fn check(name: &str, script: &[u8], stored: &[u8]) -> Result<usize, String> {
-    if lines(script).get(1).is_some_and(|line| is_host(line)) {
-        return Ok(0);
-    }
     let (listing, count) = listed(script).map_err(|what| format!("lockstep {name}: {what}"))?;
     if listing != stored {
         return Err(format!("lockstep {name}: other answers than those stored"));

@@ -126,14 +126,12 @@ fn check_lockstep(root: &Path) -> Result<(usize, usize), String> {
 }
 
 /// The scripts of examples/, each beside its listing.
-const EXAMPLES: [&str; 7] = [
+const EXAMPLES: [&str; 5] = [
     "angle-lost",
     "angle-kept",
     "interrupt-waits",
     "execute-by-mode",
     "two-levels-up",
-    "efer-watched",
-    "camera-read-only",
 ];
 
 fn example(root: &Path, name: &str, kind: &str) -> Result<Vec<u8>, String> {
@@ -160,15 +158,8 @@ fn answers(listing: &[u8]) -> Vec<&[u8]> {
         .collect()
 }
 
-/// Whether a script's second part begins with a host line that is taken in one run: all lines after the first are host lines so far.
-fn takes_host(one: &[u8], two: &[u8]) -> bool {
-    let starts_with_host = two.split(|&byte| byte == b'\n').next().is_some_and(lockstep::is_host);
-    let mut before = one.split_inclusive(|&byte| byte == b'\n').skip(1);
-    starts_with_host && before.all(|line| lockstep::is_host(&line[..line.len() - 1]))
-}
-
 /// Each example is cut in two after every line. The machine is saved after the first part and resumed with the second: the answers are those
-/// of the script in one. A host line that would be taken in one run is late after records: before it the script is not cut.
+/// of the script in one.
 fn check_passed_on(root: &Path) -> Result<usize, String> {
     let mut count = 0;
     for name in EXAMPLES {
@@ -177,9 +168,6 @@ fn check_passed_on(root: &Path) -> Result<usize, String> {
         let ends = script.iter().enumerate().filter(|(_, &byte)| byte == b'\n');
         for (lines, (end, _)) in (1..).zip(ends) {
             let (one, two) = script.split_at(end + 1);
-            if takes_host(one, two) {
-                continue;
-            }
             let passed = [save(one), two.to_vec()].concat();
             let listed = resume(&passed);
             if answers(&listed)[1..] != answers(&whole)[lines..] {

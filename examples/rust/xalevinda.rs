@@ -148,7 +148,7 @@ pub fn with_field(register: Register, field: u64, word: u64, value: u64) -> u64 
 }
 
 /// How many words a machine takes in lockstep, and how many a step shows.
-pub const MACHINE_WORDS: usize = 916;
+pub const MACHINE_WORDS: usize = 884;
 pub const SHOWN_WORDS: usize = 3;
 
 /// Makes the fresh machine of a first line in words, and returns 0; or returns the number of the reason why there is none, and no word changes.

@@ -1,4 +1,4 @@
--- Who denies an access, the host among them, and who receives the intercept, by the parts that the function is given. Assumes nothing.
+-- Who denies an access and who receives the intercept, by the parts that the function is given. Assumes nothing.
 use mathlib.Core.Path.{◌≡◌, refl, sym, ap, ◌∙◌}
 use mathlib.Core.Bool.{Bool, true, false, not, cond, ◌&&◌, and-true, and-false}
 use Prim.Native.Nat.{ℕ, ◌<◌}
@@ -16,8 +16,8 @@ use Rattle.model.specs.declared.quantity.Mode.TheVariants.{Kernel, User}
 use Rattle.model.specs.declared.quantity.Page.{Page}
 use Rattle.model.specs.declared.set.LevelSet.{LevelSet}
 use Rattle.model.specs.Bounded.{bits}
-use Rattle.model.specs.Memory.{is_user, needed, mbec_on, smep_allows, mbec_counts, denies_in, denied, receiver, host_denies_by, host_denies}
-use Rattle.model.specs.State.{State, level, level_set, active_of, enabled_at, enabled_on, secure_of, mbec_bit, host_in, host_mask_of}
+use Rattle.model.specs.Memory.{is_user, needed, mbec_on, smep_allows, mbec_counts, denies_in, denied, receiver}
+use Rattle.model.specs.State.{State, level, level_set, active_of, enabled_at, enabled_on, secure_of, mbec_bit}
 use Rattle.partition.proofs.DenyingLevels.{denying_on, denied-of, receiver-of}
 use Rattle.partition.specs.declared.access.Attempt.{Attempt}
 use Rattle.partition.specs.Denying.{denying_set, lowest_in}
@@ -65,9 +65,3 @@ module _ {z : Shape} {P : ℕ} {x : Partition} {p : VirtualProcessor} {s : State
     pub receiver-by : (enabled r : ℕ) → enabled ≡ bits 4 (λ l. enabled_at z p l) → r ≡ lowest_in denying enabled → receiver s v mode page.0 access ≡ r
     receiver-by enabled r e l =
         receiver-of s v mode page access ∙ rw (denying-by, ← d, bits-cong 4 (λ t. enabled_on s v t) (λ t. enabled_at z p t) (λ t i. the-enabled-on h t), ← e, ← l)
-
--- The host denies it by its mask of the page (02, request 7).
-pub host-by : {z : Shape} {P l : ℕ} {x : Partition} {s : State} {v : ℕ} → Acts z P x l s v
-    → (page : Page) (access : Access) {mask : ℕ} {denies : Bool} → mask ≡ host_in P x.masks page.0 → denies ≡ host_denies_by mask access → host_denies s page.0 access ≡ denies
-unfolding host_denies host_mask_of
-host-by k page access m d = rw (k.paged, k.keeps, ← m, ← d)

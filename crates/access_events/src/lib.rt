@@ -13,7 +13,7 @@ use model::machine::{BY_INTERRUPT, Setup};
 use model::quantity::{Access, Mode, NO_LEVEL, Page};
 use partition::access::{Attempt, denying_set, host_denies, lowest};
 use partition::level::Levels;
-use partition::mask::{Masks, host_mask_at};
+use partition::mask::Masks;
 use processor::record::{Record, active_of, enabled_set};
 
 pub mod mbec; // whose MBEC counts
@@ -75,7 +75,7 @@ pub fn access(
         → Runs setup.shape (vp_of vp.old) s v
         → Acts setup.shape setup.pages (partition_of levels.now masks.now)
         (active_of (vp_of vp.old)) s v
-        → Lends words.old s
+        → Lends setup.host_mask words.old s
         → acted s v request.mode (accessed request.access request.page value)
         ≡ outcome_of result (put_access s v (vp_of vp.new) words.new)) }
 {
@@ -109,8 +109,7 @@ pub fn access(
     if denying.0 != 0 {
         return Answer::Refused(Refusal::NoReceiver);
     }
-    let host = host_mask_at(setup.pages, masks, page);
-    if host_denies(host, access) {
+    if host_denies(setup.host_mask, access) {
         return Answer::Refused(Refusal::HostDenies);
     }
     let outcome_of = access_value(access, word_at(words, page));

@@ -1,8 +1,8 @@
 -- The access that a line asks for (01, "Events"; 02, request 3). Assumes nothing.
 use Rattle.std.specs.Prelude.{ℕ}
 use Rattle.model.specs.declared.event.Action.{Action}
-use Rattle.model.specs.declared.event.Action.TheVariants.{Enpart, Envp, Call, Ret, Read, Write, Fetch, Protect, Config, Secure, Flush, Rreg, Wreg, Tpr, Ack, Pstat, Vstat, Caps, Cri, Crm, Vina, Vclear}
-use Rattle.model.specs.declared.event.Event.TheVariants.{Made, Int, Host}
+use Rattle.model.specs.declared.event.Action.TheVariants.{Enpart, Envp, Call, Ret, Read, Write, Fetch, Protect, Config, Secure, Flush, Rreg, Wreg, Tpr, Ack, Pstat, Vstat, Caps, Cri, Crm}
+use Rattle.model.specs.declared.event.Event.TheVariants.{Made, Int}
 use Rattle.model.specs.declared.quantity.Access.TheVariants as Access
 use Rattle.model.specs.declared.quantity.Processor.{Processor}
 use Rattle.script.specs.declared.Parsed.{Parsed}
@@ -32,11 +32,8 @@ asked_of v mode Vstat = asked.Nothing
 asked_of v mode Caps = asked.Nothing
 asked_of v mode (Cri word) = asked.Nothing
 asked_of v mode (Crm n mask) = asked.Nothing
-asked_of v mode (Vina word) = asked.Nothing
-asked_of v mode Vclear = asked.Nothing
 
 abbrev pub asked_by : Parsed → Asked
 asked_by (parsed.Malformed r) = asked.Nothing
 asked_by (parsed.Event (Made v mode a)) = asked_of v mode a
 asked_by (parsed.Event (Int w g n)) = asked.Nothing
-asked_by (parsed.Event (Host p mask)) = asked.Nothing

@@ -54,7 +54,6 @@ pub fn asked_by(parsed: Parsed) -> Asked
         Parsed::Event(event) => match event {
             Event::Made { vp, mode, action } => asked_of(vp, mode, action),
             Event::Int { .. } => Asked::Nothing,
-            Event::Host { .. } => Asked::Nothing,
         },
         Parsed::Malformed(refusal) => Asked::Nothing,
     }

@@ -1,48 +1,24 @@
 // What moves a processor from level to level (01, "Events"): entry, VTL call, VTL return and an interrupt. The record is lent and
 // changed in place, and each contract is an equation with the definition of crate `model` that states the rule.
-ghost use Rattle.std.specs.Prelude.{◌≡◌, cond, not, ◌&&◌, if◌then◌else◌, ◌==◌, nat_eq, nat_lt};
+ghost use Rattle.std.specs.Prelude.{◌≡◌, not, ◌&&◌, if◌then◌else◌, ◌==◌, nat_eq, nat_lt};
 ghost use Rattle.model.specs.Entry.{by_call, enter, highest_ready, next_up, advanced, left};
-ghost use Rattle.model.specs.Entry.{waiting, reentered, returned, notifies, notified, interrupted};
-ghost use Rattle.model.specs.VinaWord.{vina_entered};
+ghost use Rattle.model.specs.Entry.{waiting, reentered, returned, interrupted};
 ghost use Rattle.model.specs.Registers.{rax, rcx, shared_of};
 ghost use Rattle.model.specs.State.{active_of, context, enabled_at};
-ghost use Rattle.model.specs.Updates.{set_shared, set_vina};
+ghost use Rattle.model.specs.Updates.{set_shared};
 ghost use Rattle.processor.specs.Record.{vp_of};
 
-use model::machine::{BY_CALL, BY_INTERRUPT, Control, Shape, Vina};
+use model::machine::{BY_CALL, BY_INTERRUPT, Control, Shape};
 use model::quantity::{Level, NO_LEVEL};
 use model::register;
 use processor::control::{control_of, set_control};
 use processor::record::Record;
 use processor::record_registers::{private_of, set_private, set_shared, shared_of};
 use processor::secure::unlock;
-use processor::vina::{set_vina, vina_of};
 use processor::{interrupt, record};
 use std::num::wrapping_add_u64;
-use word::registers::VinaControl;
 
-// Clears the asserted state of a level that is entered, if its VINA word has auto-reset (02, request 8). Where the state is not asserted,
-// its one word tells that nothing is to be done.
-fn auto_reset(shape: Shape, vp: &mut Record, level: Level)
-    ensures { vp_of vp.new
-        ≡ set_vina shape (vp_of vp.old) level.0
-        (vina_entered (context shape (vp_of vp.old) level.0).vina) }
-{
-    let vina = vina_of(shape, vp, level);
-    if vina.asserted == 0 {
-        return;
-    }
-    if VinaControl::unpack(vina.word).auto_reset == 1 {
-        let reset = Vina {
-            word: vina.word,
-            asserted: 0,
-        };
-        set_vina(shape, vp, level, reset);
-    }
-}
-
-// Enters a level: its record gets the reason, the level left, and RAX and RCX as they stand, and its asserted state is cleared if its
-// VINA word has auto-reset. No other register changes.
+// Enters a level: its record gets the reason, the level left, and RAX and RCX as they stand. No other register changes.
 pub fn enter(shape: Shape, vp: &mut Record, level: Level, reason: u64)
     ensures { vp_of vp.new ≡ enter shape (vp_of vp.old) level.0 reason }
 {
@@ -53,7 +29,6 @@ pub fn enter(shape: Shape, vp: &mut Record, level: Level, reason: u64)
         rcx: shared_of(vp, register::RCX),
     };
     set_control(shape, vp, level, control);
-    auto_reset(shape, vp, level);
     record::set_active(vp, level);
 }
 
@@ -200,43 +175,8 @@ pub fn vtl_return(shape: Shape, vp: &mut Record, length: u64)
     reenter(shape, vp);
 }
 
-// int: is the active level told (02, request 8)? It is if the target is below it, the vector is ready by the target's TPR class, and its own
-// VINA is enabled and not asserted.
-fn notifies(shape: Shape, vp: &Record, target: Level, vector: u64) -> bool
-    ensures { result ≡ notifies shape (vp_of vp.now) target.0 vector }
-{
-    let active = record::active_of(vp);
-    if active.0 <= target.0 {
-        return false;
-    }
-    let vina = vina_of(shape, vp, active);
-    if VinaControl::unpack(vina.word).enabled != 1 {
-        return false;
-    }
-    let ready = interrupt::is_ready(shape, vp, target, vector);
-    ready & (vina.asserted == 0)
-}
-
-// Where the active level is told, its VINA vector becomes pending, and its state asserted.
-fn notify(shape: Shape, vp: &mut Record, target: Level, vector: u64)
-    ensures { vp_of vp.new ≡ cond (notifies shape (vp_of vp.old) target.0 vector)
-        (notified shape (vp_of vp.old)) (vp_of vp.old) }
-{
-    if notifies(shape, vp, target, vector) {
-        let active = record::active_of(vp);
-        let vina = vina_of(shape, vp, active);
-        let notice = VinaControl::unpack(vina.word).vector;
-        let asserted = Vina {
-            word: vina.word,
-            asserted: 1,
-        };
-        interrupt::set_pending(shape, vp, active, notice, 1);
-        set_vina(shape, vp, active, asserted);
-    }
-}
-
 // int: a vector of the target becomes pending; the target is entered by interrupt if it is above the active level and the vector
-// is ready. If the target is below, the active level may be told.
+// is ready.
 pub fn interrupt(shape: Shape, vp: &mut Record, target: Level, vector: u64)
     ensures { vp_of vp.new ≡ interrupted shape (vp_of vp.old) target.0 vector }
 {
@@ -244,7 +184,5 @@ pub fn interrupt(shape: Shape, vp: &mut Record, target: Level, vector: u64)
     interrupt::set_pending(shape, vp, target, vector, 1);
     if entering {
         enter(shape, vp, target, BY_INTERRUPT);
-    } else {
-        notify(shape, vp, target, vector);
     }
 }

@@ -16,7 +16,7 @@ use Rattle.model.specs.declared.quantity.Page.{Page}
 use Rattle.model.specs.declared.set.LevelSet.{LevelSet}
 use Rattle.model.specs.Bounded.{bits}
 use Rattle.model.specs.Memory.{mbec_on, smep_allows, mbec_counts, denies, denied, receiver, host_denies, host_denies_by}
-use Rattle.model.specs.State.{State, level, vp, active_of, active, enabled_at, enabled_on, mask_in, mask_of, host_in, host_mask_of, secure_of, mbec_bit}
+use Rattle.model.specs.State.{State, level, vp, active_of, active, enabled_at, enabled_on, mask_in, mask_of, host_mask_of, secure_of, mbec_bit}
 use Rattle.partition.proofs.DenyingLevels.{mbecs_on, attempt_on, denying_on, denied-of, receiver-of}
 use Rattle.partition.specs.Denying.{denying_set, lowest_in}
 use Rattle.promise.specs.Promise.{Acts}
@@ -75,9 +75,9 @@ module _ {z : Shape} {P : ℕ} {x : Partition} {p : VirtualProcessor} {s : State
       rw (← a, ← b, acts.shaped, acts.paged, acts.keeps)
 
   -- No level denies.
-  pub host-explained : (k : ℕ) → k ≡ host_in P x.masks page.0 → eqb denying 0 ≡ true → explanation_of s v mode page.0 access ≡ host_only (host_denies_by k access)
-  unfolding explanation_of host_denies host_mask_of
-  host-explained k q none = rw (denied-is, none, acts.paged, acts.keeps, ← q)
+  pub host-explained : (k : ℕ) → host_mask_of s page.0 ≡ k → eqb denying 0 ≡ true → explanation_of s v mode page.0 access ≡ host_only (host_denies_by k access)
+  unfolding explanation_of host_denies
+  host-explained k q none = rw (denied-is, none, q)
 
   -- Some level does.
   pub levels-explained : eqb denying 0 ≡ false

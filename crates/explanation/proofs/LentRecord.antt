@@ -10,7 +10,7 @@ use Rattle.model.proofs.Bools.{and_right}
 use Rattle.model.proofs.Four.{four-at}
 use Rattle.model.specs.declared.machine.Setup.{Setup}
 use Rattle.model.specs.declared.machine.VirtualProcessor.{VirtualProcessor}
-use Rattle.model.specs.State.{State, no_vp, past_vp, processors, shape, pages, partition, is_index, is_processor, vp, active_of, active}
+use Rattle.model.specs.State.{State, no_vp, past_vp, processors, shape, pages, partition, is_index, is_processor, vp, active_of, active, host_mask_of}
 use Rattle.partition.specs.PartitionView.{partition_of}
 use Rattle.processor.specs.Record.{record_words, row_of, context_of, context_in, vp_of}
 use Rattle.promise.specs.Promise.{Acts}
@@ -31,6 +31,10 @@ module _ (setup : Setup) (levels masks : List ℕ) (rows : List (List ℕ)) (wor
   pub acts : (v : ℕ) (p : VirtualProcessor) → vp s v ≡ p → Acts setup.shape setup.pages (partition_of levels masks) (active_of p) s v
   unfolding shape pages partition active machine_of
   acts v p holds = record { shaped = refl; paged = refl; keeps = refl; actor = ap active_of holds }
+
+  pub hosted : (page : ℕ) → host_mask_of s page ≡ setup.host_mask
+  unfolding host_mask_of machine_of
+  hosted page = refl
 
   pub there : (v : ℕ) → is_index setup.processors v ≡ true → vp s v ≡ vp_of (get_or rows v [])
   unfolding vp is_processor processors machine_of

@@ -4,7 +4,7 @@ ghost use Rattle.std.specs.Prelude.{◌≡◌, List, ℕ, ◌^◌};
 ghost use Rattle.word.specs.Field.{bit};
 ghost use Rattle.model.specs.Bounded.{bits};
 ghost use Rattle.model.specs.Memory.{needed as needed_bit};
-ghost use Rattle.model.specs.State.{State, vp as vp_in, active_of, enabled_at, mask_in};
+ghost use Rattle.model.specs.State.{State, vp as vp_in, active_of, enabled_at, mask_in, host_mask_of};
 ghost use Rattle.partition.specs.Denying.{lowest_in};
 ghost use Rattle.partition.specs.PartitionView.{partition_of};
 ghost use Rattle.processor.specs.Record.{vp_of};
@@ -19,7 +19,7 @@ use model::quantity::{Access, Level, Mode, NO_LEVEL, Processor};
 use model::set::{LevelSet, in_set};
 use partition::access::{Attempt, denying_set, host_denies, lowest, needed};
 use partition::level::Levels;
-use partition::mask::{Masks, host_mask_at, mask_at};
+use partition::mask::{Masks, mask_at};
 use processor::record::{RECORD_WORDS, Record, active_of, enabled_set};
 
 // How a level stands to an access: it does not deny it; or it does, and then its mask of the page, the bit of a mask that the access wants of
@@ -130,7 +130,7 @@ pub fn explain(
     ensures { (s : State) (v : ℕ)
         → Acts setup.shape setup.pages (partition_of levels.now masks.now)
         (active_of (vp_of vp.now)) s v
-        → vp_in s v ≡ vp_of vp.now
+        → vp_in s v ≡ vp_of vp.now → host_mask_of s request.page.0 ≡ setup.host_mask
         → explanation_of s v request.mode request.page.0 request.access ≡ result }
 {
     let mode = request.mode;
@@ -146,8 +146,7 @@ pub fn explain(
     let mbecs = counted_set(setup.shape, vp, actor);
     let denying = denying_set(setup.shape, setup.pages, levels, masks, mbecs, attempt);
     if denying.0 == 0 {
-        let host = host_mask_at(setup.pages, masks, page);
-        return host_only(host_denies(host, access));
+        return host_only(host_denies(setup.host_mask, access));
     }
     let receiver = receiver_of(setup.shape, vp, denying);
     let first = denial_of(setup, masks, denying, mbecs, attempt, Level(1));

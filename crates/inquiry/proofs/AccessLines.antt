@@ -19,8 +19,8 @@ use Rattle.model.specs.declared.answer.Answer.TheVariants.{Refused}
 use Rattle.model.specs.declared.answer.Refusal.TheVariants as Refusal
 use Rattle.model.specs.declared.machine.Setup.{Setup}
 use Rattle.model.specs.declared.event.Action.{Action}
-use Rattle.model.specs.declared.event.Action.TheVariants.{Enpart, Envp, Call, Ret, Read, Write, Fetch, Protect, Config, Secure, Flush, Rreg, Wreg, Tpr, Ack, Pstat, Vstat, Caps, Cri, Crm, Vina, Vclear}
-use Rattle.model.specs.declared.event.Event.TheVariants.{Made, Int, Host}
+use Rattle.model.specs.declared.event.Action.TheVariants.{Enpart, Envp, Call, Ret, Read, Write, Fetch, Protect, Config, Secure, Flush, Rreg, Wreg, Tpr, Ack, Pstat, Vstat, Caps, Cri, Crm}
+use Rattle.model.specs.declared.event.Event.TheVariants.{Made, Int}
 use Rattle.model.specs.declared.quantity.Access.{Access}
 use Rattle.explanation.specs.declared.Receiver.TheVariants.{Nobody, By}
 use Rattle.model.specs.declared.quantity.Page.{Page}
@@ -131,11 +131,8 @@ module _ (s : State) (w : well_formed s ≡ true) (setup : Setup) (vs : processo
   ranged-action v mode Caps = nothing-asked (parsed.Event (Made v mode Caps)) refl
   ranged-action v mode (Cri word) = nothing-asked (parsed.Event (Made v mode (Cri word))) refl
   ranged-action v mode (Crm n mask) = nothing-asked (parsed.Event (Made v mode (Crm n mask))) refl
-  ranged-action v mode (Vina word) = nothing-asked (parsed.Event (Made v mode (Vina word))) refl
-  ranged-action v mode Vclear = nothing-asked (parsed.Event (Made v mode Vclear)) refl
 
   pub ranged : (said : Parsed) → Ranged said
   ranged (parsed.Malformed r) = nothing-asked (parsed.Malformed r) refl
   ranged (parsed.Event (Made v mode a)) = ranged-action v mode a
   ranged (parsed.Event (Int u g n)) = nothing-asked (parsed.Event (Int u g n)) refl
-  ranged (parsed.Event (Host p mask)) = nothing-asked (parsed.Event (Host p mask)) refl

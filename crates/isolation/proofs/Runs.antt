@@ -7,26 +7,22 @@ use mathlib.Core.Option.{Option, none, some}
 use Prim.Native.Nat.{ℕ, ◌≤◌}
 use lib.Dec.{leb, ltb, eqb}
 use lib.ListN.{get_or}
-use Rattle.model.specs.declared.answer.Answer.{Answer}
-use Rattle.model.specs.declared.answer.Answer.TheVariants.{Done, Refused, Intercept}
 use Rattle.model.specs.declared.event.Event.{Event}
-use Rattle.model.specs.declared.event.Event.TheVariants.{Host, Int, Made}
 use Rattle.model.specs.declared.machine.Context.{Context}
 use Rattle.model.specs.declared.machine.Shape.{Shape}
 use Rattle.model.specs.declared.machine.VirtualProcessor.{VirtualProcessor}
 use Rattle.model.specs.declared.set.LevelSet.{LevelSet}
 use Rattle.model.specs.Arrays.{number_at}
 use Rattle.model.specs.Registers.{cr0, is_private, private_of}
-use Rattle.model.specs.State.{State, no_control, no_watch, no_vina, no_context, no_vp, past_vp, processors, pages, shape, in_set, is_level, is_processor, is_page, vp, enabled_at, enabled_on, enabled_anywhere}
+use Rattle.model.specs.State.{State, no_control, no_watch, no_context, no_vp, past_vp, processors, pages, shape, in_set, is_level, is_processor, is_page, vp, enabled_at, enabled_on, enabled_anywhere}
 use Rattle.model.specs.Step.{maker, step, answers, final}
 use Rattle.model.specs.WellFormed.{well_moded}
 use borrow.Author.Tests.{ltb-true}
 use Rattle.model.proofs.Bools.{and_left, and_right, cond-then, cond-else}
 use Rattle.model.proofs.BoundedLaws.{any-has}
 use Rattle.model.specs.Hide.{closed, hides, hide_set, hide_context, hide_level, hide_vp, hide_partition, is_mask, hide_machine, hide, quiet_maker}
-use Rattle.isolation.specs.Isolation.{quiet, every_level, is_taken, none_taken, Kept, Guarded, Isolation, RunKeeps}
+use Rattle.isolation.specs.Isolation.{quiet, every_level, Kept, Guarded, Isolation, RunKeeps}
 use Rattle.model.proofs.Formed.{well-moded}
-use Rattle.model.proofs.HostLines.{host-refused}
 use Rattle.model.proofs.Keeps.{step_keeps}
 use Rattle.model.proofs.LevelSets.{in-hidden, hidden-twice}
 use Rattle.model.proofs.Maps.{map_at-ext, map_at-same, map_at-absorb, map_at-again}
@@ -134,7 +130,6 @@ module _ (K : ℕ) where
     secure = map_at-absorb (λ j w. cond (ltb j l) w 0) (λ j w. cond (ltb j l) w 0) c.secure (λ j w. cond-then (ltb j l) w 0) i;
     control = cond-else (eqb l 0) no_control c.control i;
     watch = cond-else (eqb l 0) no_watch c.watch i;
-    vina = cond-else (eqb l 0) no_vina c.vina i;
   }
 
   level-again : (E : ℕ → Bool) (z : Shape) (x : LevelSet) (l : ℕ) (c : Context) → hide_level K (λ l. true) z (hide_set z x) l (hide_level K E z x l c) ≡ hide_level K (λ l. true) z x l c
@@ -193,22 +188,6 @@ guards K s (e ∷ es) k q v l up on =
     let m = step-moved K k s e (and_left (quiet_maker K s (maker e)) (quiet K (step s e).next es) q) in
     guards K (step s e).next es k (and_right (quiet_maker K s (maker e)) (quiet K (step s e).next es) q) v l up (anywhere-kept K s (step s e).next m l on) ∙ (m.contexts v l).still up on
 
--- No host line is taken: a step refuses every one.
-not_taken : (s : State) (e : Event) → is_taken e (step s e).answer ≡ false
-not_taken s (Made vp mode action) = refl
-not_taken s (Int on target vector) = refl
-not_taken s (Host page mask) = go (step s (Host page mask)).answer (host-refused s page mask).0
-  where
-    go : (a : Answer) → ((x : ℕ) → a ≡ Done x → ⊥) → is_taken (Host page mask) a ≡ false
-    go (Done x) h = absurd (h x refl)
-    go (Refused r) h = refl
-    go (Intercept l) h = refl
-
-none-taken : (s : State) (es : List Event) → none_taken s es ≡ true
-unfolding none_taken
-none-taken s [] = refl
-none-taken s (e ∷ es) = rw (not_taken s e) (none-taken (step s e).next es)
-
 pub isolation : Isolation
 isolation K s t es k ws wt plain c =
     let E = enabled_anywhere s in
@@ -229,6 +208,4 @@ isolation K s t es k ws wt plain c =
           (rw (ap (λ f. f.1) b.moved.frame-kept, sym (shape_same K E H t), sym e, shape_same K E H s) q) n ot;
       kept = kept K s (final s es) a.moved;
       kept' = kept K t (final t es) b.moved;
-      untaken = none-taken s es;
-      untaken' = none-taken t es;
     }

@@ -6,23 +6,18 @@ use Rattle.model.specs.declared.answer.Answer.TheVariants.{Done, Refused, Interc
 use Rattle.model.specs.declared.answer.Refusal.{Refusal}
 use Rattle.model.specs.declared.event.Event.{Event}
 use Rattle.model.specs.declared.event.Action.TheVariants.{Envp, Call, Read, Flush, Rreg, Wreg}
-use Rattle.model.specs.declared.event.Event.TheVariants.{Made, Int, Host}
+use Rattle.model.specs.declared.event.Event.TheVariants.{Made, Int}
 use Rattle.model.specs.declared.machine.Context.{Context}
-use Rattle.model.specs.declared.machine.Vina.{Vina}
 use Rattle.model.specs.declared.machine.VirtualProcessor.{VirtualProcessor}
 use Rattle.model.specs.declared.quantity.Page.{Page}
 use Rattle.model.specs.declared.quantity.Processor.{Processor}
 use Rattle.model.specs.Registers.{private_of}
-use Rattle.model.specs.State.{State, level, level_set, shape, vp, word_of, no_control, no_watch, context}
+use Rattle.model.specs.State.{State, level, level_set, shape, vp, word_of, no_control, no_watch}
 use Rattle.model.specs.Step.{answers, final}
 use Rattle.isolation.specs.Isolation.{Isolated, quiet}
 
--- A VINA word that is enabled, bit 8, with vector 64 (02, request 8). Level 0's is no part of a state.
-abbrev pub told : Vina
-told = record { word = 320; asserted = 0 }
-
 abbrev pub context_of : ℕ → ℕ → Context
-context_of rip rsp = record { registers = rip ∷ rsp ∷ 0 ∷ 1 ∷ replicate 9 0; tpr = 0; pending = replicate 4 0; secure = replicate 4 0; control = no_control; watch = no_watch; vina = told }
+context_of rip rsp = record { registers = rip ∷ rsp ∷ 0 ∷ 1 ∷ replicate 9 0; tpr = 0; pending = replicate 4 0; secure = replicate 4 0; control = no_control; watch = no_watch }
 
 -- A processor at level 0: the set of its enabled levels, RIP of level 1 and RSP of level 2.
 abbrev pub processor_with : ℕ → ℕ → ℕ → VirtualProcessor
@@ -65,14 +60,12 @@ abbrev pub events : List Event
 events =
     -- RCX is set, so the call into level 1 is refused
     Made (vp_of 0) 0 (Wreg (level 0) 14 5) ∷ Made (vp_of 0) 0 (Call 3)
-    -- a read that is done, an event out of range, a register of a higher level, a host line, which a run does not take
-    ∷ Made (vp_of 1) 0 (Read (page_of 0)) ∷ Made (vp_of 9) 0 Flush ∷ Made (vp_of 0) 0 (Rreg (level 1) 0) ∷ Host (page_of 0) 0
+    -- a read that is done, an event out of range, a register of a higher level
+    ∷ Made (vp_of 1) 0 (Read (page_of 0)) ∷ Made (vp_of 9) 0 Flush ∷ Made (vp_of 0) 0 (Rreg (level 1) 0)
     -- level 2 is first enabled, on processor 1
     ∷ Made (vp_of 0) 0 (Envp (vp_of 1) (level 2) 4096 8192 1)
     -- an interrupt enters level 1 on processor 0, an intercept on processor 1, and an interrupt enters level 2 there
-    ∷ Int (vp_of 0) (level 1) 48 ∷ Made (vp_of 1) 0 (Read (page_of 1)) ∷ Int (vp_of 1) (level 2) 50
-    -- level 1 is told on processor 0 that an interrupt waits for level 0
-    ∷ Int (vp_of 0) (level 0) 32 ∷ []
+    ∷ Int (vp_of 0) (level 1) 48 ∷ Made (vp_of 1) 0 (Read (page_of 1)) ∷ Int (vp_of 1) (level 2) 50 ∷ []
 
 -- What the theorem says of them.
 abbrev pub one : State
@@ -85,14 +78,12 @@ pub record Instance : Type 0 where
   -- its hypotheses hold, so it holds
   pub isolated : Isolated 1 one two events
   -- the answers of the first run, and so those of the second
-  pub first-answers : answers one events ≡ Done 0 ∷ Refused Refusal.RcxNotZero ∷ Done 5 ∷ Refused Refusal.NoSuchProcessor ∷ Refused Refusal.TargetAbove ∷ Refused Refusal.HostLate ∷ Done 0 ∷ Done 1 ∷ Intercept (level 1) ∷ Done 1 ∷ Done 0 ∷ []
+  pub first-answers : answers one events ≡ Done 0 ∷ Refused Refusal.RcxNotZero ∷ Done 5 ∷ Refused Refusal.NoSuchProcessor ∷ Refused Refusal.TargetAbove ∷ Done 0 ∷ Done 1 ∷ Intercept (level 1) ∷ Done 1 ∷ []
   pub second-answers : answers two events ≡ answers one events
   -- RIP of level 1 on processor 0, RSP of level 2 there, and the word of page 1 stand as they began
   pub rip-kept : private_of (shape (final two events)) (vp (final two events) 0) 1 0 ≡ 8
   pub rsp-kept : private_of (shape (final two events)) (vp (final two events) 0) 2 1 ≡ 4
   pub word_kept : word_of (final two events) 1 ≡ 80
-  -- level 1 was told on processor 0, so its state is asserted
-  pub was-told : (context (shape (final two events)) (vp (final two events) 0) 1).vina.asserted ≡ 1
   -- RIP of level 2 on processor 1, which the run first enabled, is equal in both
   pub rip-first : private_of (shape (final one events)) (vp (final one events) 1) 2 0 ≡ private_of (shape (final two events)) (vp (final two events) 1) 2 0
   -- whatever levels below 1 do, RIP of level 1 on processor 1 stands as it began: level 1 is enabled on processor 0, and so guards its processors

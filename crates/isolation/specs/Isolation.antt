@@ -1,10 +1,7 @@
 -- Demand 3 as one statement; that a run keeps a state well formed; and that a level guards its processors along a run. docs/ISOLATION.md goes through it phrase by phrase.
 -- Assumes nothing.
-use Rattle.std.specs.Prelude.{◌≡◌, Bool, true, false, not, ◌&&◌, List, [], ◌∷◌, ℕ, ◌≤◌}
-use Rattle.model.specs.declared.answer.Answer.{Answer}
-use Rattle.model.specs.declared.answer.Answer.TheVariants.{Done, Refused, Intercept}
+use Rattle.std.specs.Prelude.{◌≡◌, Bool, true, false, ◌&&◌, List, [], ◌∷◌, ℕ, ◌≤◌}
 use Rattle.model.specs.declared.event.Event.{Event}
-use Rattle.model.specs.declared.event.Event.TheVariants.{Host, Int, Made}
 use Rattle.model.specs.Registers.{is_private, private_of}
 use Rattle.model.specs.State.{State, shape, vp, enabled_on, enabled_anywhere, word_of}
 use Rattle.model.specs.Step.{maker, step, answers, final}
@@ -39,18 +36,6 @@ pub record Kept (K : ℕ) (s a : State) : Type 0 where
       private_of (shape a) (vp a v) l r ≡ private_of (shape s) (vp s v) l r
   pub pages : (p : ℕ) → closed K s p ≡ true → word_of a p ≡ word_of s p
 
--- Host lines (02, request 7): one that is taken is answered 0. None is taken in the run from s.
-abbrev pub is_taken : Event → Answer → Bool
-is_taken (Host page mask) (Done value) = true
-is_taken (Host page mask) (Refused refusal) = false
-is_taken (Host page mask) (Intercept to) = false
-is_taken (Made vp mode action) answer = false
-is_taken (Int on target vector) answer = false
-
-unfoldable pub none_taken : State → List Event → Bool
-none_taken s [] = true
-none_taken s (e ∷ es) = not (is_taken e (step s e).answer) && none_taken (step s e).next es
-
 -- What the runs from s and t over a list of events have in common.
 pub record Isolated (K : ℕ) (s t : State) (es : List Event) : Type 0 where
   -- equal answers, event by event
@@ -63,11 +48,7 @@ pub record Isolated (K : ℕ) (s t : State) (es : List Event) : Type 0 where
   -- in each state the two things are as they began
   pub kept : Kept K s (final s es)
   pub kept' : Kept K t (final t es)
-  -- the list may hold host lines, but none is taken: the runs start after those that were
-  pub untaken : none_taken s es ≡ true
-  pub untaken' : none_taken t es ≡ true
 
--- Demand 3.
 abbrev pub Isolation : Type 0
 Isolation = (K : ℕ) (s t : State) (es : List Event) → 1 ≤ K → well_formed s ≡ true → well_formed t ≡ true → Alike K s s t → quiet K s es ≡ true →
     Isolated K s t es

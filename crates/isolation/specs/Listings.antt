@@ -19,8 +19,7 @@ events_of [] = []
 events_of (line ∷ more) = and_event (line_event line) (events_of more)
 
 -- Two states as in demand 3, and later lines of a script whose events meet its side condition: the listings are the same, byte for byte,
--- whatever number the first of these lines has. The lines begin after the host lines that are taken (02, request 7); a host line among them is late, and
--- gets 4, or 1.
+-- whatever number the first of these lines has.
 abbrev pub ListingIsolated : Type 0
 ListingIsolated = (K : ℕ) (s t : State) (number : ℕ) (lines : List (List ℕ)) → 1 ≤ K → well_formed s ≡ true → well_formed t ≡ true → Alike K s s t →
     quiet K s (events_of lines) ≡ true → later_records number s lines ≡ later_records number t lines

@@ -1,12 +1,10 @@
-// The events that change what the partition holds: enpart, protect, config of a level (01, "Events"), and host of a page (02, request 7). Each
-// tests the conditions of its rule one after the other and leaves with the first that holds; only then the lent words change.
+// The events that change what the partition holds of a level: enpart, protect, config (01, "Events"). Each tests the conditions of its
+// rule one after the other and leaves with the first that holds; only then the lent words change.
 ghost use Rattle.std.specs.Prelude.{◌≡◌, cond, not, ◌&&◌, List, ℕ};
-ghost use Rattle.std.proofs.Math.Option.{none};
 ghost use Rattle.model.specs.declared.event.Action.TheVariants.{Enpart, Protect, Config};
-ghost use Rattle.model.specs.Events.{host as host_rule};
 ghost use Rattle.model.specs.Masks.{turns_on, default_mask, protects_in};
 ghost use Rattle.model.specs.State.{State};
-ghost use Rattle.model.specs.Step.{acted, outcome};
+ghost use Rattle.model.specs.Step.{acted};
 ghost use Rattle.model.specs.Updates.{filled, put_partition};
 ghost use Rattle.partition.specs.PartitionView.{configs_in, partition_of};
 ghost use Rattle.promise.specs.Promise.{outcome_of, Acts};
@@ -18,7 +16,7 @@ use partition::config::{default_mask, reserved_set, turns_on};
 use partition::level::{
     Levels, config_at, enable_level, enabled_for, mbec_for, protects_at, set_config,
 };
-use partition::mask::{Masks, fill_masks, kernel_only, set_host_mask, set_mask, valid_mask};
+use partition::mask::{Masks, fill_masks, kernel_only, set_mask, valid_mask};
 
 // enpart: the target is enabled for the partition, with MBEC or without.
 pub fn enpart(
@@ -93,26 +91,6 @@ pub fn protect(
         return Answer::Refused(Refusal::KernelOnlyExecute);
     }
     set_mask(masks, actor, page, mask);
-    Answer::Done(0)
-}
-
-// host: the host's mask of a page is set, unless the line comes late. No level makes it: any may be active.
-pub fn host(late: bool, setup: Setup, masks: &mut Masks, page: Page, mask: u64) -> Answer
-    ensures { ((s : State) (v actor : ℕ) (levels : List ℕ)
-        → Acts setup.shape setup.pages (partition_of levels masks.old) actor s v
-        → outcome s none (host_rule late s page.0 mask)
-        ≡ outcome_of result (put_partition s (partition_of levels masks.new))) }
-{
-    if setup.pages <= page.0 {
-        return Answer::Refused(Refusal::NoSuchPage);
-    }
-    if !valid_mask(mask) {
-        return Answer::Refused(Refusal::InvalidMask);
-    }
-    if late {
-        return Answer::Refused(Refusal::HostLate);
-    }
-    set_host_mask(masks, page, mask);
     Answer::Done(0)
 }
 

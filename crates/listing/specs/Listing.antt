@@ -1,6 +1,6 @@
 -- The listing of a whole script (01, "Script and listing"): its lines, what each is answered, and the record of each answer.
 -- Assumes nothing.
-use Rattle.std.specs.Prelude.{Bool, false, cond, List, [], ◌∷◌, ◌++◌, ℕ, ◌+◌, ◌%◌, ◌^◌}
+use Rattle.std.specs.Prelude.{cond, List, [], ◌∷◌, ◌++◌, ℕ, ◌+◌, ◌%◌, ◌^◌}
 use Rattle.std.proofs.Math.Option.{Option, none, some}
 use Rattle.model.specs.Answers.{number_of, value_of}
 use Rattle.model.specs.Fresh.{admissible, fresh}
@@ -8,7 +8,7 @@ use Rattle.model.specs.LevelColumn.{level_column, processor_of}
 use Rattle.model.specs.State.{State}
 use Rattle.model.specs.declared.answer.Answer.{Answer}
 use Rattle.model.specs.declared.answer.Answer.TheVariants.{Refused}
-use Rattle.script.specs.EventForms.{Host, Int, Made, is_host_line, line_event}
+use Rattle.script.specs.EventForms.{line_event}
 use Rattle.script.specs.First.{line_first}
 use Rattle.script.specs.ListingLine.{listing_line}
 use Rattle.script.specs.Records.{lines}
@@ -16,7 +16,7 @@ use Rattle.script.specs.declared.Parsed.{Parsed}
 use Rattle.script.specs.declared.Parsed.TheVariants as parsed
 use Rattle.script.specs.declared.Start.{Start}
 use Rattle.script.specs.declared.Start.TheVariants as start
-use Rattle.model.specs.Step.{hosted, step}
+use Rattle.model.specs.Step.{step}
 
 -- What a line after the first is answered, its level column, and the next state.
 pub record Answered : Type 0 where
@@ -30,14 +30,6 @@ answered s (parsed.Malformed refusal) = record { answer = Refused refusal; level
 answered s (parsed.Event e) =
     record { answer = (step s e).answer; level = level_column (step s e) (processor_of e); next = (step s e).next }
 
--- The same while every line after the first has had the first field `host` (02, request 7): a host line then gets what the model gives for one that comes
--- early, and its level column is 0. Everything else is as ever.
-abbrev pub early_answered : State → Parsed → Answered
-early_answered s (parsed.Malformed refusal) = answered s (parsed.Malformed refusal)
-early_answered s (parsed.Event (Host p mask)) = record { answer = (hosted s p.0 mask).answer; level = 0; next = (hosted s p.0 mask).next }
-early_answered s (parsed.Event (Made v mode a)) = answered s (parsed.Event (Made v mode a))
-early_answered s (parsed.Event (Int w g vector)) = answered s (parsed.Event (Int w g vector))
-
 -- The record of an answer.
 abbrev pub record_of : ℕ → Answered → List ℕ
 record_of number a = listing_line number (number_of a.answer) (value_of a.answer) a.level
@@ -46,25 +38,11 @@ record_of number a = listing_line number (number_of a.answer) (value_of a.answer
 abbrev pub number_after : ℕ → ℕ
 number_after number = (number + 1) % 2 ^ 64
 
--- The records of lines after the first, of which the next has this number, where a host line is late: the answers are those of the model's step.
+-- The records of lines after the first, of which the next has this number.
 unfoldable pub later_records : ℕ → State → List (List ℕ) → List ℕ
 later_records number s [] = []
 later_records number s (line ∷ more) =
     record_of number (answered s (line_event line)) ++ later_records (number_after number) (answered s (line_event line)).next more
-
--- The records of the lines after the first while the time for host lines is open: the first line that has another first field ends it, and with it
--- all lines are late (02, request 7).
-unfoldable pub early_records : ℕ → State → List (List ℕ) → List ℕ
-early_records number s [] = []
-early_records number s (line ∷ more) =
-    cond (is_host_line line)
-    (record_of number (early_answered s (line_event line)) ++ early_records (number_after number) (early_answered s (line_event line)).next more)
-    (later_records number s (line ∷ more))
-
--- Whether the first of some lines is a host line. Where it is none, all of them are late.
-abbrev pub starts_with_host : List (List ℕ) → Bool
-starts_with_host [] = false
-starts_with_host (line ∷ more) = is_host_line line
 
 -- The state that the first line describes: none where the line is malformed or not admissible.
 abbrev pub state_by : Start → Option State
@@ -81,7 +59,7 @@ first_refused = listing_line 0 1 0 0
 -- After a refused first line the program stops.
 abbrev pub listing_from : Option State → List (List ℕ) → List ℕ
 listing_from none more = first_refused
-listing_from (some s) more = first_done ++ early_records 1 s more
+listing_from (some s) more = first_done ++ later_records 1 s more
 
 -- An empty input is refused as well.
 abbrev pub listing_of : List (List ℕ) → List ℕ

@@ -9,17 +9,13 @@ use model::answer::{Answer, Refusal};
 use model::event::Event;
 use model::quantity::{Level, Processor};
 
-// A number that is no processor's: its active level is 0.
-const NO_PROCESSOR: u64 = 4;
-
-// The processor that the level column is about: v, or w where no v is named. For a host line it is none, whose level is 0.
+// The processor that the level column is about: v, or w where no v is named.
 pub fn processor_of(event: Event) -> Processor
     ensures { result ≡ processor_of event }
 {
     match event {
         Event::Made { vp, .. } => vp,
         Event::Int { on, .. } => on,
-        Event::Host { .. } => Processor(NO_PROCESSOR),
     }
 }
 
@@ -47,7 +43,6 @@ pub fn refusal_number(refusal: Refusal) -> u64
         Refusal::ReservedBits => 1,
         Refusal::Cr0InRealMode => 1,
         Refusal::NoSuchMask => 1,
-        Refusal::VinaVectorTooLow => 1,
         Refusal::UserMode => 2,
         Refusal::CallInRealMode => 2,
         Refusal::RcxNotZero => 2,
@@ -62,8 +57,6 @@ pub fn refusal_number(refusal: Refusal) -> u64
         Refusal::TargetNotBelow => 4,
         Refusal::ProtectAtLevelZero => 4,
         Refusal::WatchAtLevelZero => 4,
-        Refusal::VinaAtLevelZero => 4,
-        Refusal::HostLate => 4,
         Refusal::EnabledForPartition => 5,
         Refusal::EnabledOnProcessor => 5,
         Refusal::NotEnabledForPartition => 6,

@@ -1,11 +1,10 @@
 -- A run in lockstep gives the listing (01, "Script and listing"): each line is answered by the state that the words stand for, and leaves words
 -- that stand for the next. Assumes nothing.
 use mathlib.Core.List.{List, ◌∷◌, ◌++◌}
-use mathlib.Core.Path.{◌≡◌, refl, sym, ap, ◌∙◌}
+use mathlib.Core.Path.{◌≡◌, refl, ap, ◌∙◌}
 use Prim.Native.Nat.{ℕ, ◌≤◌}
 use borrow.Author.Tests.{le-ltb}
 use lib.ListN.{length}
-use Rattle.listing.proofs.EarlyLines.{late-records}
 use Rattle.listing.specs.Listing.{answered, first_done, later_records, number_after, record_of}
 use Rattle.model.specs.Fresh.{fresh}
 use Rattle.model.specs.State.{State}
@@ -40,8 +39,8 @@ in_step ws lines replies run number = run-records run number
 
 pub in-step-with-script : InStepWithScript
 unfolding opened
-in-step-with-script ws ws' first lines replies f room says good late next run =
+in-step-with-script ws ws' first lines replies f room says good next run =
     let begun : state_in ws' ≡ fresh f = next ∙ rw (le-ltb (length ws) machine_words room, says, good) in
     ap (λ (l : List ℕ). first_done ++ l)
     (run-records run 1 ∙ ap (λ (s : State). later_records 1 s lines) begun)
-    ∙ rw (says, good) (ap (λ (l : List ℕ). first_done ++ l) (sym (late-records 1 (fresh f) lines late)))
+    ∙ rw (says, good)

@@ -58,9 +58,6 @@ refusals =
     refusal.TargetGuarded ∷
     refusal.NoSuchMask ∷
     refusal.WatchAtLevelZero ∷
-    refusal.HostLate ∷
-    refusal.VinaVectorTooLow ∷
-    refusal.VinaAtLevelZero ∷
     []
 
 abbrev read_back : ℕ → Refusal
@@ -114,9 +111,6 @@ read_back_lem refusal.InterruptFlagClear = refl
 read_back_lem refusal.TargetGuarded = refl
 read_back_lem refusal.NoSuchMask = refl
 read_back_lem refusal.WatchAtLevelZero = refl
-read_back_lem refusal.HostLate = refl
-read_back_lem refusal.VinaVectorTooLow = refl
-read_back_lem refusal.VinaAtLevelZero = refl
 
 pub reason-one : (r r' : Refusal) → refusal_reason r ≡ refusal_reason r' → r ≡ r'
 reason-one r r' e = sym (read_back_lem r) ∙ ap read_back e ∙ read_back_lem r'

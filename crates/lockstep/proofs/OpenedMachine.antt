@@ -12,8 +12,8 @@ use Rattle.model.proofs.Bools.{and_left, and_right}
 use Rattle.model.proofs.FreshFormed.{few-pages}
 use Rattle.model.specs.Fresh.{admissible, fresh, fresh_partition, fresh_vp}
 use Rattle.model.specs.Masks.{valid_mask}
-use Rattle.model.specs.State.{State, host_level, in_range}
-use Rattle.model.specs.Updates.{fill_masks, with_masks}
+use Rattle.model.specs.State.{State, in_range}
+use Rattle.model.specs.Updates.{with_masks}
 use Rattle.model.specs.declared.machine.FirstLine.{FirstLine}
 use Rattle.model.specs.declared.machine.Setup.{Setup}
 use Rattle.partition.specs.PartitionView.{partition_of}
@@ -87,7 +87,7 @@ module _ (f : FirstLine) (h : admissible f ≡ true) where
     count = sym (ap (λ (P : ℕ). min P 64) (said 2 (omega arith)) ∙ omega (arith, few-pages f h))
 
     module _ (levels masks vp : List ℕ) (sizes : PartSizes levels masks (replicate 4 vp))
-        (sets-are : (ks : List ℕ) → partition_of levels ks ≡ with_masks fresh_partition ks) (masks-are : masks ≡ (fill_masks f.pages fresh_partition host_level f.host_mask).masks)
+        (sets-are : (ks : List ℕ) → partition_of levels ks ≡ with_masks fresh_partition ks) (masks-are : masks ≡ fresh_partition.masks)
         (vp-is : vp_of vp ≡ fresh_vp)
       where
         abbrev words : List ℕ

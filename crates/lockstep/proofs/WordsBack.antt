@@ -40,8 +40,6 @@ context-back row e =
     ∙ one row 26 _ (omega arith)
     ∙ one row 27 _ (omega arith)
     ∙ one row 28 _ (omega arith)
-    ∙ one row 29 _ (omega arith)
-    ∙ one row 30 _ (omega arith)
     ∙ all row level_words e)
 
 -- The record of a processor.

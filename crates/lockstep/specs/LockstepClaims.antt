@@ -1,7 +1,7 @@
 -- What is proved of lockstep: a refusal changes no word, and what is told line by line are the records of the listing (01, "Script and listing"). The
 -- links of a run are what the contracts of `open` and `step` give. Proved in proofs/LockstepRun.antt. Assumes nothing.
-use Rattle.std.specs.Prelude.{true, false, List, [], ◌∷◌, ◌++◌, ◌≡◌, ℕ, ◌≤◌, length}
-use Rattle.listing.specs.Listing.{first_done, later_records, listing_of, number_after, starts_with_host}
+use Rattle.std.specs.Prelude.{true, List, [], ◌∷◌, ◌++◌, ◌≡◌, ℕ, ◌≤◌, length}
+use Rattle.listing.specs.Listing.{first_done, later_records, listing_of, number_after}
 use Rattle.model.specs.Fresh.{admissible}
 use Rattle.script.specs.First.{FirstLine, line_first}
 use Rattle.script.specs.ListingLine.{listing_line}
@@ -35,9 +35,9 @@ InStep =
     (ws : List ℕ) (lines : List (List ℕ)) (replies : List Reply) → Ran ws lines replies
     → (number : ℕ) → records_from number replies ≡ later_records number (state_in ws) lines
 
--- A run from opened words gives the listing of the script, where no host line is taken in it (02, request 7): in lockstep every host line is late.
+-- A run from opened words gives the listing of the script.
 abbrev pub InStepWithScript : Type 0
 InStepWithScript =
     (ws ws' first : List ℕ) (lines : List (List ℕ)) (replies : List Reply) (f : FirstLine) → machine_words ≤ length ws
-    → line_first first ≡ start.First f → admissible f ≡ true → starts_with_host lines ≡ false → state_in ws' ≡ (opened first ws).state → Ran ws' lines replies
+    → line_first first ≡ start.First f → admissible f ≡ true → state_in ws' ≡ (opened first ws).state → Ran ws' lines replies
     → first_done ++ records_from 1 replies ≡ listing_of (first ∷ lines)

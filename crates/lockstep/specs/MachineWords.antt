@@ -41,20 +41,20 @@ abbrev pub records_at : ℕ
 records_at = 268
 
 abbrev pub second_at : ℕ
-second_at = 414
+second_at = 406
 
 abbrev pub third_at : ℕ
-third_at = 560
+third_at = 544
 
 abbrev pub fourth_at : ℕ
-fourth_at = 706
+fourth_at = 682
 
 abbrev pub words_at : ℕ
-words_at = 852
+words_at = 820
 
 -- How many words a machine takes.
 abbrev pub machine_words : ℕ
-machine_words = 916
+machine_words = 884
 
 -- The words of the levels, and the masks.
 abbrev pub level_count : ℕ
@@ -122,7 +122,7 @@ context_words c =
     ++ c.tpr ∷ c.pending
     ++ c.secure
     ++ c.control.reason ∷ c.control.from.0 ∷ c.control.rax ∷ c.control.rcx
-    ∷ c.watch.intercepts ∷ c.watch.cr0_mask ∷ c.watch.cr4_mask ∷ c.vina.word ∷ c.vina.asserted ∷ []
+    ∷ c.watch.intercepts ∷ c.watch.cr0_mask ∷ c.watch.cr4_mask ∷ []
 
 unfoldable pub rows_of : List Context → List ℕ
 rows_of [] = []

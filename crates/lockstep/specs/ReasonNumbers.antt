@@ -70,9 +70,6 @@ refusal_reason refusal.InterruptFlagClear = 59
 refusal_reason refusal.TargetGuarded = 60
 refusal_reason refusal.NoSuchMask = 61
 refusal_reason refusal.WatchAtLevelZero = 62
-refusal_reason refusal.HostLate = 63
-refusal_reason refusal.VinaVectorTooLow = 64
-refusal_reason refusal.VinaAtLevelZero = 65
 
 -- The number of the reason for an answer.
 abbrev pub reason_number : Answer → ℕ

@@ -53,7 +53,7 @@ fn open_first(machine: &mut [u64], first: FirstLine)
     let pages = first.pages as usize;
     machine_words::store_words(machine, WORDS, &zeros[..pages]);
     let levels = fresh::fresh_levels();
-    let masks = fresh::fresh_masks(first);
+    let masks = fresh::fresh_masks();
     let vp = fresh::fresh_record();
     machine_words::store_parts(machine, &levels, &masks, &[vp; 4]);
 }

@@ -41,7 +41,7 @@ const FOURTH_RECORD: usize = THIRD_RECORD + RECORD_WORDS;
 pub(crate) const WORDS: usize = FOURTH_RECORD + RECORD_WORDS;
 
 // How many words a machine takes, with those of 64 pages.
-pub(crate) const MACHINE_WORDS: usize = 916;
+pub(crate) const MACHINE_WORDS: usize = 884;
 
 const MOST_PAGES: u64 = 64;
 

@@ -67,9 +67,6 @@ pub fn refusal_reason(refusal: Refusal) -> u64
         Refusal::TargetGuarded => 60,
         Refusal::NoSuchMask => 61,
         Refusal::WatchAtLevelZero => 62,
-        Refusal::HostLate => 63,
-        Refusal::VinaVectorTooLow => 64,
-        Refusal::VinaAtLevelZero => 65,
     }
 }
 

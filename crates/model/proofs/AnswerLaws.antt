@@ -14,7 +14,7 @@ use Rattle.model.specs.Claims.{conditions, rises, applies, Rising, Smallest, Unc
 use Rattle.model.specs.Registers.{register_of}
 use Rattle.model.specs.Memory.{denies_in, denies, denied, receiver, host_denies}
 use Rattle.model.specs.State.{State, Access, Mode, Watch, processors, shape, pages, vp, context, level, no_level, active_of, active, enabled_at, enabled_on}
-use Rattle.model.specs.Step.{Event, Enpart, Envp, Call, Ret, Read, Write, Fetch, Protect, Config, Secure, Flush, Rreg, Wreg, Tpr, Ack, Pstat, Vstat, Caps, Cri, Crm, Vina, Vclear, Made, Int, Host, Outcome, rule, rule_of, maker, mode_of, intercepted, next_for, ruled, step}
+use Rattle.model.specs.Step.{Event, Enpart, Envp, Call, Ret, Read, Write, Fetch, Protect, Config, Secure, Flush, Rreg, Wreg, Tpr, Ack, Pstat, Vstat, Caps, Cri, Crm, Made, Int, Outcome, rule, rule_of, maker, mode_of, intercepted, next_for, ruled, step}
 use Rattle.model.specs.Watching.{asks_read, asks_write, watcher}
 use Rattle.model.specs.WellFormed.{well_formed}
 use Rattle.model.proofs.Bools.{and_left, and_right, or_elim}
@@ -162,14 +162,11 @@ kind s (Made v mode (Wreg g r x)) = watched v.0 mode (front (rule_of s v.0 (mode
 kind s (Made v mode (Tpr class)) = ordinary refl
 kind s (Made v mode Ack) = ordinary refl
 kind s (Int w g n) = ordinary refl
-kind s (Host p k) = ordinary refl
 kind s (Made v mode Pstat) = ordinary refl
 kind s (Made v mode Vstat) = ordinary refl
 kind s (Made v mode Caps) = ordinary refl
 kind s (Made v mode (Cri word)) = ordinary refl
 kind s (Made v mode (Crm n mask)) = ordinary refl
-kind s (Made v mode (Vina word)) = ordinary refl
-kind s (Made v mode Vclear) = ordinary refl
 
 -- What the conditions of an event give: it is done and none applies, or it is refused, or intercepted.
 pub condition-cases : (s : State) (e : Event) (P : (Answer → Answer) → Type 0) → (Passed (rule s e).refusals → P (λ a. a)) → ((r : Refusal) → P (λ a. Refused r)) → ((l : ℕ) → Taken s e l → P (λ a. Intercept (level l))) →
@@ -230,7 +227,6 @@ not-nine refusal.InvalidMask = refl
 not-nine refusal.ReservedBits = refl
 not-nine refusal.Cr0InRealMode = refl
 not-nine refusal.NoSuchMask = refl
-not-nine refusal.VinaVectorTooLow = refl
 not-nine refusal.UserMode = refl
 not-nine refusal.CallInRealMode = refl
 not-nine refusal.RcxNotZero = refl
@@ -245,8 +241,6 @@ not-nine refusal.TargetAbove = refl
 not-nine refusal.TargetNotBelow = refl
 not-nine refusal.ProtectAtLevelZero = refl
 not-nine refusal.WatchAtLevelZero = refl
-not-nine refusal.VinaAtLevelZero = refl
-not-nine refusal.HostLate = refl
 not-nine refusal.EnabledForPartition = refl
 not-nine refusal.EnabledOnProcessor = refl
 not-nine refusal.NotEnabledForPartition = refl

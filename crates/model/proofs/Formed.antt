@@ -8,7 +8,7 @@ use lib.Dec.{leb, ltb}
 use lib.ListN.{length}
 use borrow.Author.Tests.{eqb-true, lt-ltb, le-leb, ltb-true, ltb-false, leb-true, leb-false}
 use Rattle.model.specs.Masks.{valid_mask}
-use Rattle.model.specs.State.{State, in_range, partition, processors, shape, top, max_level_of, pages, is_level, is_processor, is_page, vp, active_of, enabled_at, mask_in, mask_of, host_in, host_mask_of}
+use Rattle.model.specs.State.{State, in_range, partition, processors, shape, top, max_level_of, pages, is_level, is_processor, is_page, vp, active_of, enabled_at, mask_in, mask_of, host_mask_of}
 use Rattle.model.specs.WellFormed.{well_sized, well_formed_vp, well_formed_level, well_formed_parts, well_moded, well_formed}
 use Rattle.model.proofs.Bools.{and_left, and_right, implied, hold}
 use Rattle.model.proofs.BoundedLaws.{every-at}
@@ -80,12 +80,8 @@ module _ (s : State) (w : well_formed s ≡ true) where
 
   -- Masks are valid.
   pub host-valid : (p : ℕ) → valid_mask (host_mask_of s p) ≡ true
-  unfolding well_formed_parts host_mask_of host_in is_page
-  host-valid p = go (is_page s p) refl
-    where
-      go : (b : Bool) → is_page s p ≡ b → valid_mask (host_mask_of s p) ≡ true
-      go true e = every-at 64 _ (hold _ well-parts).1.1.1.1.0 p (ltb-true p 64 (and_right (ltb p (pages s)) (ltb p 64) e))
-      go false e = rw e
+  unfolding well_formed_parts host_mask_of
+  host-valid p = (hold _ well-parts).1.1.0
 
   pub mask-valid : (l p : ℕ) → valid_mask (mask_of s l p) ≡ true
   unfolding mask_of mask_in is_level is_page well_formed_level

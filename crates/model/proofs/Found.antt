@@ -1,14 +1,13 @@
 -- What the searches on one processor find, and what keeps its active level. Assumes nothing.
 use mathlib.Core.Path.{◌≡◌, refl}
-use mathlib.Core.Bool.{Bool, true, false, not, ◌&&◌}
+use mathlib.Core.Bool.{true, false, not, ◌&&◌}
 use Prim.Native.Nat.{ℕ, ◌<◌}
 use native.Mathlib.Omega.{arith}
 use lib.Dec.{ltb, eqb}
 use borrow.Author.Tests.{ltb-true, eqb-false}
-use Rattle.model.specs.Entry.{is_ready, highest_ready, next_up, advanced, waiting, notifies}
+use Rattle.model.specs.Entry.{highest_ready, next_up, advanced, waiting}
 use Rattle.model.specs.State.{Shape, VirtualProcessor, is_level, context, active_of, enabled_at}
 use Rattle.model.specs.Updates.{put_context, set_private, unlocked}
-use Rattle.model.specs.VinaWord.{vina_enabled}
 use Rattle.model.proofs.Bools.{and_left, and_right}
 use Rattle.model.proofs.LevelSets.{in-level}
 use Rattle.model.proofs.BoundedLaws.{least-le, least-found, highest-found}
@@ -42,23 +41,3 @@ module _ (z : Shape) where
   pub unlocked-active : (p : VirtualProcessor) (t : ℕ) → active_of (unlocked z p t) ≡ active_of p
   unfolding unlocked put_context active_of
   unlocked-active p t = refl
-
--- The active level is told that someone waits: it is above a level, and its VINA is enabled.
-module _ (z : Shape) (p : VirtualProcessor) (g n : ℕ) (e : notifies z p g n ≡ true) where
-  abbrev low : Bool
-  low = ltb g (active_of p)
-
-  abbrev on : Bool
-  on = vina_enabled (context z p (active_of p)).vina.word
-
-  both : (low && is_ready (context z p g) n && on) ≡ true
-  unfolding notifies
-  both = and_left (low && is_ready (context z p g) n && on) _ e
-
-  pub notifies-above : 0 < active_of p
-  notifies-above =
-      let b : g < active_of p = ltb-true g (active_of p) (and_left low _ (and_left (low && is_ready (context z p g) n) on both)) in
-      omega arith
-
-  pub notifies-enabled : on ≡ true
-  notifies-enabled = and_right (low && is_ready (context z p g) n) on both

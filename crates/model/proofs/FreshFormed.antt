@@ -1,6 +1,6 @@
 -- The fresh machine of an admissible first line is well formed. Assumes nothing.
 use mathlib.Core.Path.{◌≡◌, refl, sym, ◌∙◌}
-use mathlib.Core.Bool.{Bool, true, false, not, cond, ◌&&◌, false≢true, and-false}
+use mathlib.Core.Bool.{Bool, true, false, not, ◌&&◌, false≢true, and-false}
 use Prim.Native.Nat.{ℕ, zero, suc, ◌+◌, ◌*◌, ◌≤◌, ◌<◌}
 use native.Mathlib.Omega.{arith}
 use lib.Dec.{leb, ltb, eqb, leb-zero}
@@ -11,17 +11,15 @@ use Rattle.model.specs.Bounded.{every, all_of}
 use Rattle.model.specs.Claims.{FreshWellFormed}
 use Rattle.model.specs.Fresh.{admissible, level_zero_alone, fresh_vp, fresh}
 use Rattle.model.specs.Masks.{valid_mask, default_mask, turns_on, reserved_set}
-use Rattle.model.specs.State.{FirstLine, in_range, is_level, in_set, is_processor, no_context, past_context, processors, shape, top, max_level_of, pages, partition, vp, context, active_of, enabled_at, enabled_on, enabled_for, mbec_for, config_in, config_of, mask_in, mask_of, host_level, host_in, host_mask_of}
-use Rattle.model.specs.Updates.{filled, fill_masks}
-use Rattle.model.specs.WellFormed.{well_sized, never_entered, well_formed_vina, well_formed_context, well_formed_vp, well_formed_level, well_formed_parts, well_moded_vp, well_moded, well_formed}
+use Rattle.model.specs.State.{FirstLine, in_range, is_level, in_set, is_processor, no_context, past_context, processors, shape, top, max_level_of, pages, partition, vp, context, active_of, enabled_at, enabled_on, enabled_for, mbec_for, config_in, config_of, mask_in, mask_of}
+use Rattle.model.specs.WellFormed.{well_sized, never_entered, well_formed_context, well_formed_vp, well_formed_level, well_formed_parts, well_moded_vp, well_moded, well_formed}
 use Rattle.model.proofs.Bools.{and_left, and_right, and_both, implies-test, hold, all_hold, cond_same, cond-holds}
 use Rattle.model.proofs.BoundedLaws.{every-all}
-use Rattle.model.proofs.FilledMasks.{filled-cases}
-use Rattle.model.proofs.Four.{below-four, level-low}
+use Rattle.model.proofs.Four.{below-four}
 use Rattle.model.proofs.LevelSets.{none_in}
 
 context-ok : (mbec from_on : Bool) (l : ℕ) → l ≤ 3 → well_formed_context l (eqb l 0) (eqb l 0) mbec from_on no_context ≡ true
-unfolding well_formed_context never_entered well_formed_vina number_at every all_of
+unfolding well_formed_context never_entered number_at every all_of
 context-ok mbec from_on l h = below-four (λ l. well_formed_context l (eqb l 0) (eqb l 0) mbec from_on no_context ≡ true) refl refl refl refl l (omega (arith, h))
 
 -- What holds of an entry and of 0 holds of what is read from a list of such entries.
@@ -50,11 +48,11 @@ module _ (f : FirstLine) where
   zero-alone l h = below-four (λ l. in_set (shape (fresh f)) level_zero_alone l ≡ eqb l 0) (rw (in_set, is-zeroth)) (and-false (is_level _ 1)) (and-false (is_level _ 2)) (and-false (is_level _ 3)) l (omega (arith, h))
 
   enabled-fresh : (l : ℕ) → l ≤ 3 → enabled_for (fresh f) l ≡ eqb l 0
-  unfolding enabled_for partition fresh fill_masks
+  unfolding enabled_for partition fresh
   enabled-fresh = zero-alone
 
   mbec-fresh : (l : ℕ) → mbec_for (fresh f) l ≡ false
-  unfolding mbec_for partition fresh fill_masks
+  unfolding mbec_for partition fresh
   mbec-fresh l = none_in (shape (fresh f)) l
 
   up-fresh : (l : ℕ) → l ≤ 3 → enabled_at (shape (fresh f)) fresh_vp l ≡ eqb l 0
@@ -66,35 +64,17 @@ module _ (f : FirstLine) where
   vp-ok =
       all_hold _ (refl, (up-fresh 0 (omega arith), (up-fresh 0 (omega arith), (every-all 4 _ (λ l i. rw (context-fresh l (omega arith), enabled-fresh l (omega arith), up-fresh l (omega arith)) (context-ok (mbec_for (fresh f) l) _ l (omega arith))), tt))))
 
-  -- An entry is 15, or 0 past the end, and in the place of level 0 the first line's.
-  entry-ok : (P : ℕ → Type 0) → P 15 → P 0 → (l p : ℕ) → l < 4 → (l ≡ host_level → P f.host_mask) → P (number_at 256 (filled 64 f.pages host_level f.host_mask (replicate 256 15)) (4 * p + l))
-  unfolding number_at
-  entry-ok P a b l p low new =
-      filled-cases P f.pages host_level f.host_mask (replicate 256 15) (omega arith) 64 l p low (cond-holds P (ltb (4 * p + l) 256) _ 0 (replicated P 15 a b 256 (4 * p + l)) b) new
-
-  -- A mask of a level is 15, or 0 where there is none.
+  -- A mask is 15, or 0 where there is none.
   mask-ok : (P : ℕ → Type 0) → P 15 → P 0 → (l p : ℕ) → P (mask_of (fresh f) l p)
-  unfolding mask_of mask_in partition fresh fill_masks
-  mask-ok P a b l p = go (ltb 0 l && is_level (shape (fresh f)) l && (ltb p (pages (fresh f)) && ltb p 64)) refl
-    where
-      go : (c : Bool) → (ltb 0 l && is_level (shape (fresh f)) l && (ltb p (pages (fresh f)) && ltb p 64)) ≡ c → P (cond c (number_at 256 (filled 64 f.pages host_level f.host_mask (replicate 256 15)) (4 * p + l)) 0)
-      go true e =
-          let q = and_left (ltb 0 l && is_level (shape (fresh f)) l) _ e in
-          let above : 0 < l = ltb-true 0 l (and_left (ltb 0 l) (is_level (shape (fresh f)) l) q) in
-          entry-ok P a b l p (level-low (shape (fresh f)) l (and_right (ltb 0 l) (is_level (shape (fresh f)) l) q)) (λ z. absurd (omega arith))
-      go false e = b
-
-  -- The host's is valid where the first line's is.
-  host-ok : valid_mask f.host_mask ≡ true → (p : ℕ) → valid_mask (host_mask_of (fresh f) p) ≡ true
-  unfolding host_mask_of host_in partition fresh fill_masks
-  host-ok h p = cond-holds (λ k. valid_mask k ≡ true) (ltb p (pages (fresh f)) && ltb p 64) _ 0 (entry-ok (λ k. valid_mask k ≡ true) refl refl host_level p (omega arith) (λ z. h)) refl
+  unfolding mask_of mask_in partition number_at fresh
+  mask-ok P a b l p = cond-holds P (ltb 0 l && is_level (shape (fresh f)) l && (ltb p (pages (fresh f)) && ltb p 64)) _ 0 (cond-holds P (ltb (4 * p + l) 256) _ 0 (replicated P 15 a b 256 (4 * p + l)) b) b
 
   masks-ok : (l : ℕ) → every 64 (λ p. valid_mask (mask_of (fresh f) l p)) ≡ true
   masks-ok l = every-all 64 _ (λ p i. mask-ok (λ k. valid_mask k ≡ true) refl refl l p)
 
   -- A configuration word is 62, or 0 where there is none.
   config-ok : (P : ℕ → Type 0) → P 62 → P 0 → (l : ℕ) → P (config_of (fresh f) l)
-  unfolding config_of config_in partition number_at fresh fill_masks
+  unfolding config_of config_in partition number_at fresh
   config-ok P a b l = cond-holds P (ltb 0 l && is_level (shape (fresh f)) l) _ 0 (cond-holds P (ltb l 4) _ 0 (replicated P 62 a b 4 l) b) b
 
   level-ok : (l : ℕ) → well_formed_level (fresh f) (suc l) ≡ true
@@ -111,7 +91,7 @@ module _ (f : FirstLine) where
   unfolding well_formed_parts fresh
   parts-ok host = all_hold _ (
     every-all 4 _ (λ v i. implies-test (is_processor (fresh f) v) _ (λ h. rw (vp-fresh v h) vp-ok)),
-    (every-all 3 _ (λ l i. level-ok l), (host, (rw (mbec-fresh 0), (every-all 64 _ (λ p i. host-ok host p), tt)))),
+    (every-all 3 _ (λ l i. level-ok l), (host, (rw (mbec-fresh 0), tt))),
   )
 
   -- No level above 0 is enabled.

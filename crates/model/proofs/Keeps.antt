@@ -12,19 +12,18 @@ use Rattle.model.specs.Arrays.{number_at, stored}
 use Rattle.model.specs.Bounded.{every}
 use Rattle.model.specs.Claims.{StepKeeps}
 use Rattle.model.specs.Entry.{enter, called, returned, interrupted, started, acknowledged, by_interrupt}
-use Rattle.model.specs.Events.{configured, watch_effect, vina_effect}
+use Rattle.model.specs.Events.{configured, watch_effect}
 use Rattle.model.specs.Masks.{valid_mask, kernel_only, default_mask, turns_on, reserved_set, secure_reserved_set, protects_in, protects}
-use Rattle.model.specs.State.{State, Partition, Shape, VirtualProcessor, Watch, Vina as VinaState, processors, shape, max_level_of, pages, partition, is_level, is_processor, vp, context, active_of, active, enabled_at, enabled_on, enabled_for, mbec_for, config_in, config_of, mask_in, mask_of, host_level, host_in, host_mask_of, mbec_bit}
-use Rattle.model.specs.Step.{Event, Enpart, Envp, Call, Ret, Read, Write, Fetch, Protect, Config, Secure, Flush, Rreg, Wreg, Tpr, Ack, Pstat, Vstat, Caps, Cri, Crm, Vina, Vclear, Made, Int, Host, rule, rule_of, maker, intercepted, next_for, step}
-use Rattle.model.specs.Updates.{with_masks, set_register, set_tpr, set_secure, set_watch, with_intercepts, with_cr_mask, set_vina, with_vina_word, with_asserted, enable_level, set_config, set_mask, filled, fill_masks, put_vp, put_partition, set_word, on_vp, on_partition}
+use Rattle.model.specs.State.{State, Partition, Shape, VirtualProcessor, Watch, processors, shape, max_level_of, pages, partition, is_level, is_processor, vp, context, active_of, active, enabled_at, enabled_on, enabled_for, mbec_for, config_in, config_of, mask_in, mask_of, mbec_bit}
+use Rattle.model.specs.Step.{Event, Enpart, Envp, Call, Ret, Read, Write, Fetch, Protect, Config, Secure, Flush, Rreg, Wreg, Tpr, Ack, Pstat, Vstat, Caps, Cri, Crm, Made, Int, rule, rule_of, maker, intercepted, next_for, step}
+use Rattle.model.specs.Updates.{with_masks, set_register, set_tpr, set_secure, set_watch, with_intercepts, with_cr_mask, enable_level, set_config, set_mask, filled, fill_masks, put_vp, put_partition, set_word, on_vp, on_partition}
 use Rattle.model.specs.Watching.{intercept_reserved_set}
-use Rattle.model.specs.WellFormed.{well_sized, well_formed_vina, well_formed_vp, well_formed_level_by, well_formed_level, well_formed_parts, well_moded, well_formed}
+use Rattle.model.specs.WellFormed.{well_sized, well_formed_vp, well_formed_level_by, well_formed_level, well_formed_parts, well_moded, well_formed}
 use Rattle.model.proofs.AnswerLaws.{Passed, Taken, step-cases}
-use Rattle.model.proofs.ArrayLaws.{number-cases}
-use Rattle.model.proofs.Bools.{and_left, and_right, and-not, and-off, and_both, or_left, implied, implies-test, hold, all_hold, positive}
+use Rattle.model.proofs.ArrayLaws.{number-cases, number-new}
+use Rattle.model.proofs.Bools.{and_left, and_right, and-not, and-off, and_both, or_left, implied, implies-test, hold, all_hold, cond-holds, positive}
 use Rattle.model.proofs.BoundedLaws.{every-at, every-all}
 use Rattle.model.specs.Hide.{quiet_maker}
-use Rattle.model.proofs.FilledMasks.{stored-mask, filled-cases, filled-new}
 use Rattle.model.proofs.Formed
 use Rattle.model.proofs.Formed.{well-sized, well-parts, well-moded, is-processor, is-level, active-level}
 use Rattle.model.proofs.Four.{level-low}
@@ -57,7 +56,7 @@ Tested s l = well_formed_level_by (mask_of s l) (config_of s l) (enabled_for s l
 
 -- A change of one processor's record.
 on_vp-parts : (s : State) (v : ℕ) (f : Shape → VirtualProcessor → VirtualProcessor) → well_formed_parts s ≡ true → (is_processor s v ≡ true → SoundIn s (vp s v) → SoundIn s (f (shape s) (vp s v))) → well_formed_parts (on_vp s v f) ≡ true
-unfolding well_formed_parts well_formed_vp well_formed_level on_vp put_vp is_processor processors shape partition pages enabled_for mbec_for config_of mask_of host_mask_of
+unfolding well_formed_parts well_formed_vp well_formed_level on_vp put_vp is_processor processors shape partition pages enabled_for mbec_for config_of mask_of
 on_vp-parts s v f h g =
     let t = hold _ h in
     let old : (u : ℕ) → u < 4 → is_processor s u ≡ true → formed s (vp s u) ≡ true = λ u i e. implied (is_processor s u) _ (every-at 4 _ t.0 u i) e in
@@ -67,7 +66,7 @@ on_vp-parts s v f h g =
       t.1,
     )
 
--- A change of what the partition holds: what is enabled and has MBEC still does, each level above 0 passes, and the host's masks stay valid.
+-- A change of what the partition holds: what is enabled and has MBEC still does, and each level above 0 passes.
 module _ (s : State) (x : Partition) where
   abbrev changed : State
   changed = put_partition s x
@@ -77,14 +76,13 @@ module _ (s : State) (x : Partition) where
     pub mbec : (l : ℕ) → mbec_for s l ≡ true → mbec_for changed l ≡ true
     pub zeroth : not (mbec_for s 0) ≡ true → not (mbec_for changed 0) ≡ true
 
-  partition-parts : well_formed_parts s ≡ true → Grown → ((l : ℕ) → 0 < l → Tested s l → Tested changed l)
-      → ((p : ℕ) → valid_mask (host_mask_of s p) ≡ true → valid_mask (host_mask_of changed p) ≡ true) → well_formed_parts changed ≡ true
+  partition-parts : well_formed_parts s ≡ true → Grown → ((l : ℕ) → 0 < l → Tested s l → Tested changed l) → well_formed_parts changed ≡ true
   unfolding well_formed_parts well_formed_level
-  partition-parts h more tests hosts =
+  partition-parts h more tests =
       let t = hold _ h in
       all_hold _ (
         every-all 4 _ (λ u i. implies-test (is_processor changed u) _ (λ e. processor u e (every-at 4 _ t.0 u i))),
-        (every-all 3 _ (λ i b. tests (suc i) (omega arith) (every-at 3 _ t.1.0 i b)), (unfold put_partition in t.1.1.0, (more.zeroth t.1.1.1.0, (every-all 64 _ (λ p i. hosts p (every-at 64 _ t.1.1.1.1.0 p i)), tt)))),
+        (every-all 3 _ (λ i b. tests (suc i) (omega arith) (every-at 3 _ t.1.0 i b)), (unfold put_partition in t.1.1.0, (more.zeroth t.1.1.1.0, tt))),
       )
     where
       grown : (p : VirtualProcessor) → SoundIn s p → SoundIn changed p
@@ -107,7 +105,6 @@ module _ (s : State) (x : Partition) where
 config-parts : (s : State) (g w : ℕ) → well_formed_parts s ≡ true → 0 < g → (well_formed_level_by (mask_of s g) w (enabled_for s g) (mbec_for s g)) ≡ true → well_formed_parts (put_partition s (set_config (partition s) g w)) ≡ true
 config-parts s g w h o new = partition-parts s (set_config (partition s) g w) h (unfold set_config in same-sets s _ refl refl) (λ l a old.
     unfold set_config put_partition config_of config_in mask_of mask_in enabled_for mbec_for partition shape pages in go l old (ltb 0 l && is_level (shape s) l) refl)
-    (λ p v. unfold set_config put_partition host_mask_of partition pages in v)
   where
     go : (l : ℕ) → Tested s l → (b : Bool) → (ltb 0 l && is_level (shape s) l) ≡ b
         → (well_formed_level_by (mask_of s l) (cond b (number_at 4 (stored 4 (partition s).configs g w) l) 0) (enabled_for s l) (mbec_for s l)) ≡ true
@@ -146,10 +143,9 @@ masks-tests m n w on mbec valid kernel h =
 masks-parts : (s : State) (ks : List ℕ) → well_formed_parts s ≡ true →
     ((l q : ℕ) → valid_mask (mask_of s l q) ≡ true → valid_mask (mask_of (put_partition s (with_masks (partition s) ks)) l q) ≡ true) →
     ((l : ℕ) → mbec_for s l ≡ true → turns_on (config_of s l) ≡ true → (q : ℕ) → not (kernel_only (mask_of s l q)) ≡ true → not (kernel_only (mask_of (put_partition s (with_masks (partition s) ks)) l q)) ≡ true) →
-    ((q : ℕ) → valid_mask (host_mask_of s q) ≡ true → valid_mask (host_mask_of (put_partition s (with_masks (partition s) ks)) q) ≡ true) →
     well_formed_parts (put_partition s (with_masks (partition s) ks)) ≡ true
-masks-parts s ks h valid kernel hosts = partition-parts s (with_masks (partition s) ks) h (same-sets s _ refl refl) (λ l a old.
-    unfold put_partition config_of config_in enabled_for mbec_for partition shape in masks-tests (mask_of s l) (mask_of (put_partition s (with_masks (partition s) ks)) l) (config_of s l) (enabled_for s l) (mbec_for s l) (valid l) (kernel l) old) hosts
+masks-parts s ks h valid kernel = partition-parts s (with_masks (partition s) ks) h (same-sets s _ refl refl) (λ l a old.
+    unfold put_partition config_of config_in enabled_for mbec_for partition shape in masks-tests (mask_of s l) (mask_of (put_partition s (with_masks (partition s) ks)) l) (config_of s l) (enabled_for s l) (mbec_for s l) (valid l) (kernel l) old)
 
 -- The mask of level j for page q after one mask of level l is set.
 mask-after : (P : ℕ → Type 0) (s : State) (l p k j q : ℕ) → l < 4 → P (mask_of s j q) → (j ≡ l → P k) → P (mask_of (put_partition s (set_mask (partition s) l p k)) j q)
@@ -159,31 +155,13 @@ mask-after P s l p k j q b h new = go (ltb 0 j && is_level (shape s) j && (ltb q
     go : (g : Bool) → (ltb 0 j && is_level (shape s) j && (ltb q (pages s) && ltb q 64)) ≡ g → P (cond g (number_at 256 (partition s).masks (4 * q + j)) 0) → P (cond g (number_at 256 (stored 256 (partition s).masks (4 * p + l) k) (4 * q + j)) 0)
     go true e o =
         let low : j < 4 = level-low (shape s) j (and_right (ltb 0 j) (is_level (shape s) j) (and_left (ltb 0 j && is_level (shape s) j) _ e)) in
-        stored-mask P l k (partition s).masks b p j q low o new
+        number-cases P 256 (partition s).masks (4 * p + l) (4 * q + j) k o (λ d. new (omega arith))
     go false e o = o
 
--- The host's mask of page q after it, and after a column is filled: the old or the new one.
-host-after : (P : ℕ → Type 0) (s : State) (l p k q : ℕ) → l < 4 → P (host_mask_of s q) → P k → P (host_mask_of (put_partition s (set_mask (partition s) l p k)) q)
-unfolding host_mask_of host_in set_mask put_partition partition pages
-host-after P s l p k q b h new = go (ltb q (pages s) && ltb q 64) h
-  where
-    go : (g : Bool) → P (cond g (number_at 256 (partition s).masks (4 * q + host_level)) 0) → P (cond g (number_at 256 (stored 256 (partition s).masks (4 * p + l) k) (4 * q + host_level)) 0)
-    go true o = stored-mask P l k (partition s).masks b p host_level q (omega arith) o (λ e. new)
-    go false o = o
-
-host-filled : (P : ℕ → Type 0) (s : State) (l k q : ℕ) → l < 4 → P (host_mask_of s q) → P k → P (host_mask_of (put_partition s (fill_masks (pages s) (partition s) l k)) q)
-unfolding host_mask_of host_in fill_masks put_partition partition pages
-host-filled P s l k q b h new = go (ltb q (pages s) && ltb q 64) h
-  where
-    go : (g : Bool) → P (cond g (number_at 256 (partition s).masks (4 * q + host_level)) 0) → P (cond g (number_at 256 (filled 64 (pages s) l k (partition s).masks) (4 * q + host_level)) 0)
-    go true o = filled-cases P (pages s) l k (partition s).masks b 64 host_level q (omega arith) o (λ e. new)
-    go false o = o
-
-pub set_mask-parts : (s : State) (l p k : ℕ) → well_formed_parts s ≡ true → l < 4 → valid_mask k ≡ true → (kernel_only k && mbec_for s l) ≡ false → well_formed_parts (put_partition s (set_mask (partition s) l p k)) ≡ true
+set_mask-parts : (s : State) (l p k : ℕ) → well_formed_parts s ≡ true → l < 4 → valid_mask k ≡ true → (kernel_only k && mbec_for s l) ≡ false → well_formed_parts (put_partition s (set_mask (partition s) l p k)) ≡ true
 set_mask-parts s l p k h b v r = unfold set_mask in masks-parts s (stored 256 (partition s).masks (4 * p + l) k) h
     (λ j q old. unfold set_mask in mask-after (λ y. valid_mask y ≡ true) s l p k j q b old (λ e. v))
     (λ j mb on q old. unfold set_mask in mask-after (λ y. not (kernel_only y) ≡ true) s l p k j q b old (λ e. rw (and-off (kernel_only k) (mbec_for s l) r (rw e at mb))))
-    (λ q old. unfold set_mask in host-after (λ y. valid_mask y ≡ true) s l p k q b old v)
 
 -- The mask of level j for page q after level g's masks of all pages are set: the old or the new one, and of level g the new one.
 module _ (P : ℕ → Type 0) (s : State) (g k : ℕ) (b : g < 4) where
@@ -193,12 +171,32 @@ module _ (P : ℕ → Type 0) (s : State) (g k : ℕ) (b : g < 4) where
   abbrev after : State
   after = put_partition s (fill_masks (pages s) (partition s) g k)
 
+  filled-cases : (n j q : ℕ) → j < 4 → P (number_at 256 masks (4 * q + j)) → (j ≡ g → P k) → P (number_at 256 (filled n (pages s) g k masks) (4 * q + j))
+  unfolding filled
+  filled-cases zero j q c h f = h
+  filled-cases (suc n) j q c h f =
+      cond-holds (λ ks. P (number_at 256 ks (4 * q + j))) (ltb n (pages s)) _ _ (number-cases P 256 (filled n (pages s) g k masks) (4 * n + g) (4 * q + j) k (filled-cases n j q c h f) (λ d. f (omega arith))) (filled-cases n j q c h f)
+
+  filled-new : (n q : ℕ) → q < n → q < pages s → P k → P 0 → P (number_at 256 (filled n (pages s) g k masks) (4 * q + g))
+  unfolding filled
+  filled-new zero q c d h z = absurd (omega arith)
+  filled-new (suc n) q c d h z = go (eqb q n) refl (λ e. filled-new n q e d h z)
+    where
+      ks : List ℕ
+      ks = filled n (pages s) g k masks
+
+      go : (e : Bool) → eqb q n ≡ e → (q < n → P (number_at 256 ks (4 * q + g))) → P (number_at 256 (cond (ltb n (pages s)) (stored 256 ks (4 * n + g) k) ks) (4 * q + g))
+      go true e r = rw (eqb-true q n e, lt-ltb n (pages s) (let x = eqb-true q n e in omega arith)) (number-new P 256 ks (4 * n + g) k h z)
+      go false e r =
+          let ne : (q ≡ n → ⊥) = eqb-false q n e in
+          cond-holds (λ ms. P (number_at 256 ms (4 * q + g))) (ltb n (pages s)) (stored 256 ks (4 * n + g) k) ks (number-cases P 256 ks (4 * n + g) (4 * q + g) k (r (omega arith)) (λ d. h)) (r (omega arith))
+
   mask-filled : (j q : ℕ) → P (mask_of s j q) → (j ≡ g → P k) → P (mask_of after j q)
   unfolding mask_of mask_in fill_masks put_partition partition shape pages
   mask-filled j q h f = go (ltb 0 j && is_level (shape s) j && (ltb q (pages s) && ltb q 64)) refl h
     where
       go : (e : Bool) → (ltb 0 j && is_level (shape s) j && (ltb q (pages s) && ltb q 64)) ≡ e → P (cond e (number_at 256 masks (4 * q + j)) 0) → P (cond e (number_at 256 (filled 64 (pages s) g k masks) (4 * q + j)) 0)
-      go true e o = filled-cases P (pages s) g k masks b 64 j q (level-low (shape s) j (and_right (ltb 0 j) (is_level (shape s) j) (and_left (ltb 0 j && is_level (shape s) j) _ e))) o f
+      go true e o = filled-cases 64 j q (level-low (shape s) j (and_right (ltb 0 j) (is_level (shape s) j) (and_left (ltb 0 j && is_level (shape s) j) _ e))) o f
       go false e o = o
 
   mask-new : (q : ℕ) → P k → P 0 → P (mask_of after g q)
@@ -206,7 +204,7 @@ module _ (P : ℕ → Type 0) (s : State) (g k : ℕ) (b : g < 4) where
   mask-new q h z = go (ltb 0 g && is_level (shape s) g && (ltb q (pages s) && ltb q 64)) refl
     where
       go : (e : Bool) → (ltb 0 g && is_level (shape s) g && (ltb q (pages s) && ltb q 64)) ≡ e → P (cond e (number_at 256 (filled 64 (pages s) g k masks) (4 * q + g)) 0)
-      go true e = let i = and_right (ltb 0 g && is_level (shape s) g) (ltb q (pages s) && ltb q 64) e in filled-new P (pages s) g k masks b 64 q (ltb-true q 64 (and_right (ltb q (pages s)) (ltb q 64) i)) (ltb-true q (pages s) (and_left (ltb q (pages s)) (ltb q 64) i)) h z
+      go true e = let i = and_right (ltb 0 g && is_level (shape s) g) (ltb q (pages s) && ltb q 64) e in filled-new 64 q (ltb-true q 64 (and_right (ltb q (pages s)) (ltb q 64) i)) (ltb-true q (pages s) (and_left (ltb q (pages s)) (ltb q 64) i)) h z
       go false e = z
 
 -- A new configuration word. Where it turns protections on, the masks are filled first.
@@ -251,7 +249,6 @@ module _ (s : State) (g w : ℕ) (h : well_formed_parts s ≡ true) (o : 0 < g) 
   filled-parts off = unfold filled-state fill_masks in masks-parts s (filled 64 (pages s) g (default_mask w) (partition s).masks) h
       (λ j q old. unfold fill_masks in mask-filled (λ y. valid_mask y ≡ true) s g (default_mask w) b j q old (λ e. v))
       (λ j mb turned q old. unfold fill_masks in mask-filled (λ y. not (kernel_only y) ≡ true) s g (default_mask w) b j q old (λ e. absurd (false≢true (sym off ∙ (rw e at turned)))))
-      (λ q old. unfold fill_masks in host-filled (λ y. valid_mask y ≡ true) s g (default_mask w) q b old v)
 
   -- The word and the masks can be put in either order.
   swapped : put_partition s (fill_masks (pages s) (set_config (partition s) g w) g (default_mask w)) ≡ put_partition filled-state (set_config (partition filled-state) g w)
@@ -293,7 +290,7 @@ module _ (s : State) (w : well_formed s ≡ true) where
     on = λ l h. is-on (λ y. y ≡ true) l h (λ e. refl);
     mbec = λ l h. has-mbec (λ y. y ≡ true) l h (λ e. absurd (false≢true (sym free ∙ (rw e at h))));
     zeroth = λ h. has-mbec (λ y. not y ≡ true) 0 h (λ e. absurd (omega arith));
-  }) (λ l a old. go l old (eqb l t) refl) (λ p v. unfold enable_level put_partition host_mask_of partition pages in v)
+  }) (λ l a old. go l old (eqb l t) refl)
     where
       x : Partition
       x = enable_level (shape s) (partition s) t mbec
@@ -333,10 +330,6 @@ module _ (s : State) (w : well_formed s ≡ true) where
           let same-mbec : mbec_for (put_partition s x) l ≡ mbec_for s l = has-mbec (λ y. y ≡ mbec_for s l) l refl (λ q. absurd (n q)) in
           rw (same-on, same-mbec) (unfold enable_level put_partition config_of config_in mask_of mask_in partition shape pages in old)
 
-  vina-parts : (v : ℕ) (f : VinaState → VinaState) → ((n : VinaState) → well_formed_vina n ≡ true → well_formed_vina (f n) ≡ true) → well_formed_parts (vina_effect s v f) ≡ true
-  vina-parts v f k =
-      on_vp-parts s v (λ z p. set_vina z p (active_of p) (f (context z p (active_of p)).vina)) parts (λ i g. Sound.set_vina-sound (shape s) (enabled_for s) (mbec_for s) (vp s v) (active_of (vp s v)) f (active-level s w v i) k g)
-
   watch-parts : (v : ℕ) (f : Watch → Watch) → ((u : Watch) → not (intercept_reserved_set u.intercepts) ≡ true → not (intercept_reserved_set (f u).intercepts) ≡ true) → well_formed_parts (watch_effect s v f) ≡ true
   watch-parts v f k =
       on_vp-parts s v (λ z p. set_watch z p (active_of p) (f (context z p (active_of p)).watch)) parts (λ i g. Sound.set_watch-sound (shape s) (enabled_for s) (mbec_for s) (vp s v) (active_of (vp s v)) f (active-level s w v i) k g)
@@ -348,7 +341,7 @@ module _ (s : State) (w : well_formed s ≡ true) where
   effect-parts (Made v mode (Call len)) ps = on_vp-parts s v.0 (λ z p. called z p len) parts (λ i g. Sound.called-sound (shape s) (enabled_for s) (mbec_for s) (vp s v.0) len (search) g)
   effect-parts (Made v mode (Ret len)) ps = on_vp-parts s v.0 (λ z p. returned z p len) parts (λ i g. Sound.returned-sound (shape s) (enabled_for s) (mbec_for s) (vp s v.0) len (positive (active_of (vp s v.0)) search) g)
   effect-parts (Made v mode (Read p)) ps = parts
-  effect-parts (Made v mode (Write p x)) ps = unfold set_word well_formed_parts well_formed_vp well_formed_level is_processor processors shape vp partition enabled_for mbec_for config_of mask_of host_mask_of pages in parts
+  effect-parts (Made v mode (Write p x)) ps = unfold set_word well_formed_parts well_formed_vp well_formed_level is_processor processors shape vp partition enabled_for mbec_for config_of mask_of pages in parts
   effect-parts (Made v mode (Fetch p)) ps = parts
   effect-parts (Made v mode (Protect p m)) ps = unfold on_partition in set_mask-parts s (active_of (vp s v.0)) p.0 m parts (level-low (shape s) _ (active-level s w v.0 (is-processor s w v.0 search))) (not-false (valid_mask m) search) search
   effect-parts (Made v mode (Config g x)) ps = configured-parts s g.0 x parts (positive g.0 search) (level-low (shape s) _ (is-level s w g.0 search)) (not-false (enabled_for s g.0) search) (search) (not-false (valid_mask (default_mask x)) search) (search)
@@ -365,13 +358,10 @@ module _ (s : State) (w : well_formed s ≡ true) where
       on_vp-parts s v.0 (λ z p. set_tpr z p (active_of p) class) parts (λ i g. Sound.set_tpr-sound (shape s) (enabled_for s) (mbec_for s) (vp s v.0) (active_of (vp s v.0)) class (active-level s w v.0 i) (le-leb class 15 (ltb-false 15 class legal)) g)
   effect-parts (Made v mode Ack) ps = on_vp-parts s v.0 acknowledged parts (λ i g. Sound.acknowledged-sound (shape s) (enabled_for s) (mbec_for s) (vp s v.0) (search) g)
   effect-parts (Int u g n) ps = on_vp-parts s u.0 (λ z p. interrupted z p g.0 n) parts (λ i h. Sound.interrupted-sound (shape s) (enabled_for s) (mbec_for s) (vp s u.0) g.0 n (ltb-false n 16 (or_left (ltb n 16) (ltb 255 n) search)) (unfold enabled_on in not-false (enabled_on s u.0 g.0) search) h)
-  effect-parts (Host p k) ps = absurd (false≢true (sym ps.1.1.0))
   effect-parts (Made v mode Pstat) ps = parts
   effect-parts (Made v mode Vstat) ps = parts
   effect-parts (Made v mode Caps) ps = parts
   effect-parts (Made v mode (Cri word)) ps = watch-parts v.0 (λ w. with_intercepts w word) (λ w h. let legal : intercept_reserved_set word ≡ false = search in rw legal)
-  effect-parts (Made v mode (Vina word)) ps = vina-parts v.0 (λ n. with_vina_word n word) (λ n h. Sound.word-formed n word (search) h)
-  effect-parts (Made v mode Vclear) ps = vina-parts v.0 (λ n. with_asserted n 0) (λ n h. Sound.asserted-formed n 0 refl h)
   effect-parts (Made v mode (Crm n mask)) ps = watch-parts v.0 (λ w. with_cr_mask w (eqb n 4) mask) (λ w h. h)
 
   intercepted-parts : (e : Event) (l : ℕ) → Taken s e l → well_formed_parts (intercepted s (maker e) l) ≡ true

@@ -2,7 +2,6 @@
 pub mod Bools  -- tests
 pub mod BoundedLaws  -- tests and searches below a bound
 pub mod ArrayLaws  -- arrays
-pub mod FilledMasks  -- masks after a store, and after a column is filled
 pub mod Four  -- arrays of four
 pub mod Sets  -- sets as numbers
 pub mod LevelSets  -- sets of levels
@@ -18,7 +17,6 @@ pub mod Whole  -- hiding and the whole state
 pub mod Formed  -- what a well-formed state has
 pub mod Steps  -- a step commutes with hiding
 pub mod Moves  -- what a step leaves as it was
-pub mod Readings  -- readings that go wrong
+pub mod Readings  -- two readings that go wrong
 pub mod Sound  -- a well-formed processor stays so
 pub mod Keeps  -- a step keeps a state well formed
-pub mod HostLines  -- the host's masks of the pages, and the lines that set them

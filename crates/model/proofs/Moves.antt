@@ -2,8 +2,9 @@
 -- Assumes nothing.
 use mathlib.Core.Path.{◌≡◌, refl, sym, ap, ◌∙◌}
 use mathlib.Core.Bool.{Bool, true, false, not, cond, ◌&&◌, ◌||◌, false≢true, and-false}
+use mathlib.Core.List.{List}
 use mathlib.Core.Option.{Option, none, some}
-use Prim.Native.Nat.{ℕ, ◌+◌, ◌*◌, ◌≤◌, ◌<◌}
+use Prim.Native.Nat.{ℕ, zero, suc, ◌+◌, ◌*◌, ◌≤◌, ◌<◌}
 use native.Mathlib.Omega.{arith}
 use lib.Dec.{leb, ltb, eqb}
 use lib.ListN.{length, get_or, set, length-set}
@@ -11,24 +12,22 @@ use lib.Seq.{get_or-set_same, get_or-set_other}
 use borrow.Author.Tests.{lt-ltb, le-leb, lt-leb, eq-eqb, eqb-true, eqb-false, ltb-true, ltb-false, leb-true, not-false}
 use Rattle.word.specs.Field.{bit}
 use Rattle.model.specs.Arrays.{number_at, stored}
-use Rattle.model.specs.Entry.{record_of, enter, next_up, advanced, called, restored, waiting, reentered, left, returned, enters, notifies, notified, interrupted, started_context, started, acknowledged, by_call, by_interrupt}
-use Rattle.model.specs.Events.{configured, watch_effect, vina_effect}
+use Rattle.model.specs.Entry.{record_of, enter, next_up, advanced, called, restored, waiting, reentered, left, returned, enters, interrupted, started_context, started, acknowledged, by_call, by_interrupt}
+use Rattle.model.specs.Events.{configured, watch_effect}
 use Rattle.model.specs.Masks.{read_bit, write_bit, turns_on, default_mask, protects_in, protects}
 use Rattle.model.specs.Memory.{needed}
 use Rattle.model.specs.Registers.{rip, cr0, rax, rcx, protected_bit, is_private, private_of, shared_of}
-use Rattle.model.specs.State.{State, Context, Partition, Shape, VirtualProcessor, Access, Watch, Vina as VinaState, no_context, past_context, no_vp, past_vp, processors, shape, pages, partition, is_level, is_processor, vp, context, active_of, active, enabled_at, enabled_on, enabled_anywhere, config_in, mask_in, mask_of, host_level, host_in, host_mask_of, word_of}
-use Rattle.model.specs.Step.{Event, Enpart, Envp, Call, Ret, Read, Write, Fetch, Protect, Config, Secure, Flush, Rreg, Wreg, Tpr, Ack, Pstat, Vstat, Caps, Cri, Crm, Vina, Vclear, Made, Int, Host, rule, rule_of, maker, mode_of, intercepted, next_for, step}
-use Rattle.model.specs.Updates.{with_control, with_active, put_context, set_shared, set_private, set_register, set_tpr, set_pending, set_secure, set_watch, with_intercepts, with_cr_mask, with_vina, set_vina, with_vina_word, with_asserted, unlocked, enable_level, set_config, set_mask, fill_masks, put_vp, put_partition, set_word, on_vp, on_partition}
-use Rattle.model.specs.VinaWord.{vina_vector, vina_entered}
+use Rattle.model.specs.State.{State, Context, Partition, Shape, VirtualProcessor, Access, Watch, no_context, past_context, no_vp, past_vp, processors, shape, pages, partition, is_level, is_processor, vp, context, active_of, active, enabled_at, enabled_on, enabled_anywhere, config_in, mask_in, mask_of, host_mask_of, word_of}
+use Rattle.model.specs.Step.{Event, Enpart, Envp, Call, Ret, Read, Write, Fetch, Protect, Config, Secure, Flush, Rreg, Wreg, Tpr, Ack, Pstat, Vstat, Caps, Cri, Crm, Made, Int, rule, rule_of, maker, mode_of, intercepted, next_for, step}
+use Rattle.model.specs.Updates.{with_control, with_active, put_context, set_shared, set_private, set_register, set_tpr, set_pending, set_secure, set_watch, with_intercepts, with_cr_mask, unlocked, enable_level, set_config, set_mask, filled, fill_masks, put_vp, put_partition, set_word, on_vp, on_partition}
 use Rattle.model.specs.WellFormed.{well_moded_vp, well_moded, well_formed}
 use Rattle.model.proofs.AnswerLaws.{Passed, step-cases}
 use Rattle.model.proofs.ArrayLaws.{set_cases, stored-cases, number-cases}
-use Rattle.model.proofs.Bools.{and_left, and_right, and-not, implied, implies-test, cond-holds, positive}
+use Rattle.model.proofs.Bools.{and_left, and_right, and-not, implied, implies-test, cond-holds}
 use Rattle.model.proofs.BoundedLaws.{every-at, every-all, any-cong, any-grows}
 use Rattle.model.specs.Hide.{closed, hides}
 use Rattle.model.specs.Hide.{quiet_maker}
-use Rattle.model.proofs.FilledMasks.{stored_other, filled-other}
-use Rattle.model.proofs.Formed.{is-processor, is-level, active-level, four-contexts}
+use Rattle.model.proofs.Formed.{is-processor, is-level, four-contexts}
 use Rattle.model.proofs.Four.{level-low}
 use Rattle.model.proofs.LevelSets.{in-here, in-other}
 use Rattle.model.proofs.Steps.{maker-low, open-page, read-of-write, start-open}
@@ -94,7 +93,7 @@ module _ (z : Shape) (p : VirtualProcessor) (t ip sp cr : ℕ) (i : is_level z t
       go true e = rw (eqb-true j t e, enabled-begun, context-begun) new
       go false e = let n = eqb-false j t e in rw (enabled-other j n) (context-other (P j (enabled_at z p j)) j n (old j n))
 
--- What no event changes of a state: its sizes and the first line's mask.
+-- What no event changes of a state: its sizes and the host mask.
 abbrev pub frame : State → ℕ × Shape × ℕ × ℕ × ℕ
 frame s = (processors s, shape s, pages s, length s.words, s.machine.host_mask)
 
@@ -173,11 +172,7 @@ module _ (K : ℕ) where
 
     enter-turned : (p : VirtualProcessor) (l reason : ℕ) → TurnedAll p (enter z p l reason)
     unfolding enter
-    enter-turned p l reason = then-all p _ _ (quiet_put p l (with_vina (with_control (context z p l) (record_of p reason)) (vina_entered (context z p l).vina)) refl) (active-turned _ l)
-
-    set_vina-turned : (p : VirtualProcessor) (l : ℕ) (n : VinaState) → TurnedAll p (set_vina z p l n)
-    unfolding set_vina
-    set_vina-turned p l n = quiet_put p l _ refl
+    enter-turned p l reason = then-all p _ _ (quiet_put p l (with_control (context z p l) (record_of p reason)) refl) (active-turned _ l)
 
     set_watch-turned : (p : VirtualProcessor) (l : ℕ) (w : Watch) → TurnedAll p (set_watch z p l w)
     unfolding set_watch
@@ -245,31 +240,20 @@ module _ (K : ℕ) where
         r : VirtualProcessor
         r = unlocked z q (active_of p)
 
-    notified-turned : (p : VirtualProcessor) → TurnedAll p (notified z p)
-    unfolding notified
-    notified-turned p =
-        let q = set_pending z p (active_of p) (vina_vector (context z p (active_of p)).vina.word) 1 in
-        then-all p q _ (set_pending-turned p (active_of p) _ 1) (set_vina-turned q (active_of p) _)
-
     interrupted-turned : (p : VirtualProcessor) (g n : ℕ) → TurnedAll p (interrupted z p g n)
     unfolding interrupted
-    interrupted-turned p g n =
-        let q = set_pending z p g n 1 in
-        let first = set_pending-turned p g n 1 in
-        cond-holds (TurnedAll p) (enters z p g n) _ _ (then-all p q _ first (enter-turned q g by_interrupt))
-        (cond-holds (TurnedAll p) (notifies z p g n) _ _ (then-all p q _ first (notified-turned q)) first)
+    interrupted-turned p g n = cond-holds (TurnedAll p) (enters z p g n) _ _ (then-all p (set_pending z p g n 1) _ (set_pending-turned p g n 1) (enter-turned (set_pending z p g n 1) g by_interrupt)) (set_pending-turned p g n 1)
 
     acknowledged-turned : (p : VirtualProcessor) → TurnedAll p (acknowledged z p)
     unfolding acknowledged
     acknowledged-turned p = set_pending-turned p (active_of p) _ 0
 
-  -- The whole state: the frame, what the levels from K up protect and how, the host's masks, hidden words, and each context.
+  -- The whole state: the frame, what the levels from K up protect and how, hidden words, and each context.
   pub record Moved (s t : State) : Type 0 where
     pub frame-kept : frame t ≡ frame s
     pub contexts : (v l : ℕ) → Turned K l (enabled_anywhere s l) (enabled_on s v l) (context (shape s) (vp s v) l) (enabled_on t v l) (context (shape t) (vp t v) l)
     pub protections : (l : ℕ) → K ≤ l → protects t l ≡ protects s l
     pub masks : (l p : ℕ) → K ≤ l → mask_of t l p ≡ mask_of s l p
-    pub hosts : (p : ℕ) → host_mask_of t p ≡ host_mask_of s p
     pub words : (p : ℕ) → closed K s p ≡ true → word_of t p ≡ word_of s p
 
   pub same-moved : (s : State) → Moved s s
@@ -278,7 +262,6 @@ module _ (K : ℕ) where
     contexts = λ v l. same-turned l _ _ _;
     protections = λ l h. refl;
     masks = λ l p h. refl;
-    hosts = λ p. refl;
     words = λ p h. refl;
   }
 
@@ -286,7 +269,8 @@ module _ (K : ℕ) where
   pub closed-kept : (s t : State) → Moved s t → (p : ℕ) → closed K t p ≡ closed K s p
   unfolding closed
   closed-kept s t m p =
-      rw (m.hosts p) (ap (λ b. not (bit (host_mask_of s p) read_bit) || b) (any-cong 4 _ _ (λ i l. go i (leb K i) refl)))
+      let host : host_mask_of t p ≡ host_mask_of s p = unfold host_mask_of in ap (λ f. f.4) m.frame-kept in
+      rw host (ap (λ b. not (bit (host_mask_of s p) read_bit) || b) (any-cong 4 _ _ (λ i l. go i (leb K i) refl)))
     where
       go : (i : ℕ) (b : Bool) → leb K i ≡ b → (leb K i && protects t i && not (bit (mask_of t i p) read_bit)) ≡ (leb K i && protects s i && not (bit (mask_of s i p) read_bit))
       go i true e = let h : K ≤ i = leb-true K i e in rw (e, m.protections i h, m.masks i p h)
@@ -303,35 +287,31 @@ module _ (K : ℕ) where
     contexts = λ v l. then-turned l _ _ (anywhere-kept s t a l) _ _ _ _ _ _ (a.contexts v l) (b.contexts v l);
     protections = λ l h. b.protections l h ∙ a.protections l h;
     masks = λ l p h. b.masks l p h ∙ a.masks l p h;
-    hosts = λ p. b.hosts p ∙ a.hosts p;
     words = λ p h. b.words p (closed-kept s t a p ∙ h) ∙ a.words p h;
   }
 
   on_vp-moved : (s : State) (v : ℕ) (f : Shape → VirtualProcessor → VirtualProcessor) → TurnedAll (enabled_anywhere s) (shape s) (vp s v) (f (shape s) (vp s v)) → Moved s (on_vp s v f)
-  unfolding on_vp put_vp processors shape pages partition protects mask_of host_mask_of word_of enabled_on
+  unfolding on_vp put_vp processors shape pages partition protects mask_of word_of enabled_on
   on_vp-moved s v f t = record {
     frame-kept = refl;
     contexts = λ w l. vp-cases (λ q. Turned K l (enabled_anywhere s l) (enabled_at (shape s) (vp s w) l) (context (shape s) (vp s w) l) (enabled_at (shape s) q l) (context (shape s) q l)) s v w (f (shape s) (vp s v)) (same-turned l _ _ _) (λ e. rw e (t l));
     protections = λ l h. refl;
     masks = λ l q h. refl;
-    hosts = λ q. refl;
     words = λ q h. refl;
   }
 
-  -- A change of what the partition holds that keeps the configuration words and masks of the levels from K up, and the host's masks.
+  -- A change of what the partition holds that keeps the configuration words and masks of the levels from K up.
   pub record Below (x y : Partition) : Type 0 where
     pub configs : (l : ℕ) → K ≤ l → number_at 4 y.configs l ≡ number_at 4 x.configs l
     pub masks : (l p : ℕ) → K ≤ l → l < 4 → number_at 256 y.masks (4 * p + l) ≡ number_at 256 x.masks (4 * p + l)
-    pub hosts : (p : ℕ) → number_at 256 y.masks (4 * p + host_level) ≡ number_at 256 x.masks (4 * p + host_level)
 
   partition-moved : (s : State) (f : Shape → Partition → Partition) → Below (partition s) (f (shape s) (partition s)) → Moved s (on_partition s f)
-  unfolding on_partition put_partition processors shape pages partition is_processor vp protects protects_in config_in mask_of mask_in host_mask_of host_in word_of enabled_on
+  unfolding on_partition put_partition processors shape pages partition is_processor vp protects protects_in config_in mask_of mask_in word_of enabled_on
   partition-moved s f h = record {
     frame-kept = refl;
     contexts = λ w l. same-turned l _ _ _;
     protections = λ l i. rw (h.configs l i);
     masks = λ l q i. go l q i (ltb 0 l && is_level (shape s) l && (ltb q (pages s) && ltb q 64)) refl;
-    hosts = λ q. ap (λ k. cond (ltb q (pages s) && ltb q 64) k 0) (h.hosts q);
     words = λ q h. refl;
   }
     where
@@ -342,34 +322,35 @@ module _ (K : ℕ) where
 
   enable_level-below : (z : Shape) (x : Partition) (l : ℕ) (b : Bool) → Below x (enable_level z x l b)
   unfolding enable_level
-  enable_level-below z x l b = record { configs = λ l i. refl; masks = λ l p i j. refl; hosts = λ p. refl }
+  enable_level-below z x l b = record { configs = λ l i. refl; masks = λ l p i j. refl }
 
-  set_mask-below : (x : Partition) (l p k : ℕ) → 0 < l → l < 4 → l < K → Below x (set_mask x l p k)
+  -- A mask of a lower level stands at another place.
+  stored-below : (ks : List ℕ) (l p k : ℕ) → l < K → (j q : ℕ) → K ≤ j → j < 4 → number_at 256 (stored 256 ks (4 * p + l) k) (4 * q + j) ≡ number_at 256 ks (4 * q + j)
+  stored-below ks l p k h j q i b = number-cases (λ y. y ≡ number_at 256 ks (4 * q + j)) 256 ks (4 * p + l) (4 * q + j) k refl (λ e. absurd (omega arith))
+
+  set_mask-below : (x : Partition) (l p k : ℕ) → l < K → Below x (set_mask x l p k)
   unfolding set_mask
-  set_mask-below x l p k o b h = record {
-    configs = λ j i. refl;
-    masks = λ j q i c. stored_other x.masks l p k b j q c (λ e. omega arith);
-    hosts = λ q. stored_other x.masks l p k b host_level q (omega arith) (λ e. omega arith);
-  }
+  set_mask-below x l p k h = record { configs = λ j i. refl; masks = stored-below x.masks l p k h }
 
-  configured-below : (z : Shape) (P : ℕ) (x : Partition) (g w : ℕ) → 0 < g → g < 4 → g < K → Below x (configured z P x g w)
+  filled-below : (n P l k : ℕ) (ks : List ℕ) → l < K → (j q : ℕ) → K ≤ j → j < 4 → number_at 256 (filled n P l k ks) (4 * q + j) ≡ number_at 256 ks (4 * q + j)
+  unfolding filled
+  filled-below zero P l k ks h j q i b = refl
+  filled-below (suc n) P l k ks h j q i b =
+      cond-holds (λ ms. number_at 256 ms (4 * q + j) ≡ number_at 256 ks (4 * q + j)) (ltb n P) _ _ (stored-below (filled n P l k ks) l n k h j q i b ∙ filled-below n P l k ks h j q i b) (filled-below n P l k ks h j q i b)
+
+  configured-below : (z : Shape) (P : ℕ) (x : Partition) (g w : ℕ) → g < K → Below x (configured z P x g w)
   unfolding configured fill_masks set_config
-  configured-below z P x g w o b h =
+  configured-below z P x g w h =
       let configs : (j : ℕ) → K ≤ j → number_at 4 (stored 4 x.configs g w) j ≡ number_at 4 x.configs j = λ j i. number-cases (λ y. y ≡ number_at 4 x.configs j) 4 x.configs g j w refl (λ e. absurd (omega arith)) in
-      cond-holds (Below x) (turns_on w && not (protects_in z x.configs g)) _ _ (record {
-        configs = configs;
-        masks = λ j q i c. filled-other P g (default_mask w) x.masks b j q c (λ e. omega arith);
-        hosts = λ q. filled-other P g (default_mask w) x.masks b host_level q (omega arith) (λ e. omega arith);
-      }) (record { configs = configs; masks = λ l p i j. refl; hosts = λ p. refl })
+      cond-holds (Below x) (turns_on w && not (protects_in z x.configs g)) _ _ (record { configs = configs; masks = filled-below 64 P g (default_mask w) x.masks h }) (record { configs = configs; masks = λ l p i j. refl })
 
   set_word-moved : (s : State) (p x : ℕ) → closed K s p ≡ false → Moved s (set_word s p x)
-  unfolding set_word processors shape pages partition is_processor vp protects mask_of host_mask_of word_of enabled_on
+  unfolding set_word processors shape pages partition is_processor vp protects mask_of word_of enabled_on
   set_word-moved s p x h = record {
     frame-kept = rw (length-set s.words p x);
     contexts = λ w l. same-turned l _ _ _;
     protections = λ l h. refl;
     masks = λ j q i. refl;
-    hosts = λ q. refl;
     words = λ q d. get_or-set_other s.words p q x 0 (λ e. false≢true (sym h ∙ (rw e at d)));
   }
 
@@ -377,9 +358,6 @@ module _ (K : ℕ) where
 module _ (K : ℕ) (k : 1 ≤ K) (s : State) where
   low : (v : ℕ) → quiet_maker K s (some v) ≡ true → active_of (vp s v) < K
   low v c = unfold active in maker-low K (enabled_anywhere s) (closed K s) k s v c
-
-  vina-moved : (v : ℕ) (f : VinaState → VinaState) → Moved K s (vina_effect s v f)
-  vina-moved v f = on_vp-moved K s v (λ z p. set_vina z p (active_of p) (f (context z p (active_of p)).vina)) (set_vina-turned K (enabled_anywhere s) (shape s) (vp s v) _ _)
 
   watch-moved : (v : ℕ) (f : Watch → Watch) → Moved K s (watch_effect s v f)
   watch-moved v f = on_vp-moved K s v (λ z p. set_watch z p (active_of p) (f (context z p (active_of p)).watch)) (set_watch-turned K (enabled_anywhere s) (shape s) (vp s v) _ _)
@@ -394,9 +372,9 @@ module _ (K : ℕ) (k : 1 ≤ K) (s : State) where
   effect-moved w (Made v mode (Write p x)) c ps =
       set_word-moved K s p.0 x (open-page K (enabled_anywhere s) (closed K s) k s w (λ l h. h) (λ p h. h) Access.Write write_bit (unfold needed in λ m mode. refl) read-of-write v.0 (mode_of mode) p.0 (low v.0 c) (search) (search))
   effect-moved w (Made v mode (Fetch p)) c ps = same-moved K s
-  effect-moved w (Made v mode (Protect p m)) c ps = partition-moved K s (λ z x. set_mask x (active s v.0) p.0 m) (set_mask-below K (partition s) (active s v.0) p.0 m (positive _ search) (level-low (shape s) _ (active-level s w v.0 (is-processor s w v.0 search))) (low v.0 c))
+  effect-moved w (Made v mode (Protect p m)) c ps = partition-moved K s (λ z x. set_mask x (active s v.0) p.0 m) (set_mask-below K (partition s) (active s v.0) p.0 m (low v.0 c))
   effect-moved w (Made v mode (Config g x)) c ps = let a : active_of (vp s v.0) < K = low v.0 c in
-      partition-moved K s (λ z y. configured z (pages s) y g.0 x) (configured-below K (shape s) (pages s) (partition s) g.0 x (positive g.0 search) (level-low (shape s) _ (is-level s w g.0 search)) (let b : g.0 ≤ active_of (vp s v.0) = ltb-false _ _ search in omega arith))
+      partition-moved K s (λ z y. configured z (pages s) y g.0 x) (configured-below K (shape s) (pages s) (partition s) g.0 x (let b : g.0 ≤ active_of (vp s v.0) = ltb-false _ _ search in omega arith))
   effect-moved w (Made v mode (Secure l x)) c ps = on_vp-moved K s v.0 (λ z p. set_secure z p (active_of p) l.0 x) (set_secure-turned K (enabled_anywhere s) (shape s) (vp s v.0) _ l.0 x)
   effect-moved w (Made v mode Flush) c ps = same-moved K s
   effect-moved w (Made v mode (Rreg g r)) c ps = same-moved K s
@@ -409,13 +387,10 @@ module _ (K : ℕ) (k : 1 ≤ K) (s : State) where
   effect-moved w (Made v mode (Tpr class)) c ps = on_vp-moved K s v.0 (λ z p. set_tpr z p (active_of p) class) (set_tpr-turned K (enabled_anywhere s) (shape s) (vp s v.0) _ class)
   effect-moved w (Made v mode Ack) c ps = on_vp-moved K s v.0 acknowledged (acknowledged-turned K (enabled_anywhere s) (shape s) (vp s v.0))
   effect-moved w (Int u g n) c ps = on_vp-moved K s u.0 (λ z p. interrupted z p g.0 n) (interrupted-turned K (enabled_anywhere s) (shape s) (vp s u.0) g.0 n)
-  effect-moved w (Host p m) c ps = absurd (false≢true (sym ps.1.1.0))
   effect-moved w (Made v mode Pstat) c ps = same-moved K s
   effect-moved w (Made v mode Vstat) c ps = same-moved K s
   effect-moved w (Made v mode Caps) c ps = same-moved K s
   effect-moved w (Made v mode (Cri word)) c ps = watch-moved v.0 (λ w. with_intercepts w word)
-  effect-moved w (Made v mode (Vina word)) c ps = vina-moved v.0 (λ n. with_vina_word n word)
-  effect-moved w (Made v mode Vclear) c ps = vina-moved v.0 (λ n. with_asserted n 0)
   effect-moved w (Made v mode (Crm n mask)) c ps = watch-moved v.0 (λ w. with_cr_mask w (eqb n 4) mask)
 
   intercepted-moved : (m : Option ℕ) (l : ℕ) → Moved K s (intercepted s m l)

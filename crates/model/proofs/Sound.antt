@@ -7,32 +7,31 @@ use Prim.Native.Nat.{ℕ, zero, suc, ◌/◌, ◌%◌, ◌≤◌, ◌<◌}
 use native.Mathlib.Omega.{arith}
 use lib.Dec.{leb, ltb, eqb}
 use lib.ListN.{length, length-set}
-use borrow.Author.Tests.{lt-ltb, ltb-true, ltb-false, not-true}
+use borrow.Author.Tests.{lt-ltb, ltb-true, not-true}
 use Rattle.word.specs.Field.{field, put, bit}
 use Rattle.word.proofs.FieldLaws.{take-put-below, take-put-above, bit-put-below}
 use Rattle.model.specs.Arrays.{number_at}
 use Rattle.model.specs.Bounded.{every}
-use Rattle.model.specs.Entry.{record_of, enter, is_ready, highest_ready, next_up, advanced, called, restored, waiting, reentered, left, returned, enters, notifies, notified, interrupted, started, acknowledged, by_call, by_interrupt}
+use Rattle.model.specs.Entry.{record_of, enter, is_ready, highest_ready, next_up, advanced, called, restored, waiting, reentered, left, returned, enters, interrupted, started, acknowledged, by_call, by_interrupt}
 use Rattle.model.specs.Masks.{secure_reserved_set}
 use Rattle.model.specs.Registers.{rip, rax, rcx, is_private, shared_of}
-use Rattle.model.specs.State.{Context, Control, Shape, VirtualProcessor, Watch, Vina, is_level, context, active_of, enabled_at, is_pending, mbec_bit, lock_bit}
-use Rattle.model.specs.Updates.{with_secure, with_control, with_active, put_context, set_shared, set_private, set_register, set_tpr, set_pending, set_secure, set_watch, set_vina, with_vina, with_vina_word, with_asserted, cleared, unlocked}
-use Rattle.model.specs.VinaWord.{vina_vector, vina_enabled, auto_resets, vector_too_low, vina_entered}
+use Rattle.model.specs.State.{Context, Control, Shape, VirtualProcessor, Watch, is_level, context, active_of, enabled_at, is_pending, mbec_bit, lock_bit}
+use Rattle.model.specs.Updates.{with_secure, with_control, with_active, put_context, set_shared, set_private, set_register, set_tpr, set_pending, set_secure, set_watch, cleared, unlocked}
 use Rattle.model.specs.Watching.{intercept_reserved_set}
-use Rattle.model.specs.WellFormed.{never_entered, well_entered, well_formed_vina, well_formed_context}
+use Rattle.model.specs.WellFormed.{never_entered, well_entered, well_formed_context}
 use Rattle.model.proofs.ArrayLaws.{number-cases}
-use Rattle.model.proofs.Bools.{and_left, and_right, and-not, and_both, implied, implies-test, hold, all_hold, cond-holds}
+use Rattle.model.proofs.Bools.{and_left, and_right, and_both, implied, implies-test, hold, all_hold, cond-holds}
 use Rattle.model.proofs.BoundedLaws.{every-at, every-all, highest-found}
 use Rattle.model.proofs.Four.{level-low}
 use Rattle.model.proofs.Moves.{context-cases, put-enabled, started-cases}
-use Rattle.model.proofs.Found.{enabled-level, next_up-found, waiting-found, notifies-above, notifies-enabled, advanced-active, unlocked-active}
+use Rattle.model.proofs.Found.{enabled-level, next_up-found, waiting-found, advanced-active, unlocked-active}
 
 -- A secure word that well-formedness allows, where the partition has MBEC for the setting level as `mbec` tells.
 abbrev pub allowed : Bool → ℕ → Bool
 allowed mbec w = not (secure_reserved_set w) && (not (bit w mbec_bit) || mbec)
 
 -- What well-formedness asks of a context of level l, field by field; `up` tells the levels enabled on the processor.
-pub record Sound (l : ℕ) (on mbec : Bool) (up : ℕ → Bool) (enabled : Bool) (tpr : ℕ) (pending secure : List ℕ) (control : Control) (watch : Watch) (vina : Vina) : Type 0 where
+pub record Sound (l : ℕ) (on mbec : Bool) (up : ℕ → Bool) (enabled : Bool) (tpr : ℕ) (pending secure : List ℕ) (control : Control) (watch : Watch) : Type 0 where
   pub part : enabled ≡ true → on ≡ true
   pub entry : 0 < l → enabled ≡ true → well_entered l (up control.from.0) control ≡ true
   pub words : (j : ℕ) → j < l → allowed mbec (number_at 4 secure j) ≡ true
@@ -41,10 +40,9 @@ pub record Sound (l : ℕ) (on mbec : Bool) (up : ℕ → Bool) (enabled : Bool)
   pub idle : enabled ≡ false → every 4 (λ i. eqb (number_at 4 pending i) 0) ≡ true
   pub blank : 0 < l → enabled ≡ false → never_entered control ≡ true
   pub watched : 0 < l → not (intercept_reserved_set watch.intercepts) ≡ true
-  pub told : 0 < l → well_formed_vina vina ≡ true
 
 abbrev pub SoundContext : ℕ → Bool → Bool → Bool → (ℕ → Bool) → Context → Type 0
-SoundContext l on enabled mbec up c = Sound l on mbec up enabled c.tpr c.pending c.secure c.control c.watch c.vina
+SoundContext l on enabled mbec up c = Sound l on mbec up enabled c.tpr c.pending c.secure c.control c.watch
 
 -- As the test that the definition makes, and back.
 pub sound-test : (l : ℕ) (on enabled mbec : Bool) (up : ℕ → Bool) (c : Context) → SoundContext l on enabled mbec up c → well_formed_context l on enabled mbec (up c.control.from.0) c ≡ true
@@ -53,7 +51,7 @@ sound-test l on enabled mbec up c g = all_hold _ (
   implies-test enabled on g.part,
   (
     implies-test (ltb 0 l && enabled) _ (λ h. g.entry (ltb-true 0 l (and_left (ltb 0 l) enabled h)) (and_right (ltb 0 l) enabled h)),
-    (every-all l _ g.words, (g.class, (g.low, (unless enabled _ g.idle, (implies-test (ltb 0 l && not enabled) _ (λ h. g.blank (ltb-true 0 l (and_left (ltb 0 l) _ h)) (not-true enabled (and_right (ltb 0 l) _ h))), (implies-test (ltb 0 l) _ (λ h. g.watched (ltb-true 0 l h)), (implies-test (ltb 0 l) _ (λ h. g.told (ltb-true 0 l h)), tt))))))),
+    (every-all l _ g.words, (g.class, (g.low, (unless enabled _ g.idle, (implies-test (ltb 0 l && not enabled) _ (λ h. g.blank (ltb-true 0 l (and_left (ltb 0 l) _ h)) (not-true enabled (and_right (ltb 0 l) _ h))), (implies-test (ltb 0 l) _ (λ h. g.watched (ltb-true 0 l h)), tt)))))),
   ),
 )
   where
@@ -74,7 +72,6 @@ test-sound l on enabled mbec up c h =
       idle = other enabled _ t.1.1.1.1.1.0;
       blank = λ o e. implied (ltb 0 l && not enabled) _ t.1.1.1.1.1.1.0 (rw (lt-ltb 0 l o, e) refl);
       watched = λ o. implied (ltb 0 l) _ t.1.1.1.1.1.1.1.0 (lt-ltb 0 l o);
-      told = λ o. implied (ltb 0 l) _ t.1.1.1.1.1.1.1.1.0 (lt-ltb 0 l o);
     }
   where
     other : (b t : Bool) → (b || t) ≡ true → b ≡ false → t ≡ true
@@ -94,28 +91,10 @@ sound_more l on on' enabled mbec mbec' up up' c f m u g = record {
   idle = g.idle;
   blank = g.blank;
   watched = g.watched;
-  told = g.told;
 }
   where
     more : (w : ℕ) → allowed mbec w ≡ true → allowed mbec' w ≡ true
     more w h = and_both (not (secure_reserved_set w)) _ (and_left (not (secure_reserved_set w)) _ h) (implies-test (bit w mbec_bit) mbec' (λ b. m (implied (bit w mbec_bit) mbec (and_right (not (secure_reserved_set w)) _ h) b)))
-
--- VINA words and states: what a well-formed one has, and what keeps it so.
-vina-vector : (n : Vina) → well_formed_vina n ≡ true → not (vector_too_low n.word) ≡ true
-unfolding well_formed_vina
-vina-vector n h = and_left (not (vector_too_low n.word)) _ h
-
-pub asserted-formed : (n : Vina) (x : ℕ) → leb x 1 ≡ true → well_formed_vina n ≡ true → well_formed_vina (with_asserted n x) ≡ true
-unfolding well_formed_vina
-asserted-formed n x e h = and_both (not (vector_too_low n.word)) _ (and_left (not (vector_too_low n.word)) _ h) e
-
-pub word-formed : (n : Vina) (word : ℕ) → vector_too_low word ≡ false → well_formed_vina n ≡ true → well_formed_vina (with_vina_word n word) ≡ true
-unfolding well_formed_vina
-word-formed n word e h = and_both (not (vector_too_low word)) _ (rw e) (and_right (not (vector_too_low n.word)) _ h)
-
-entered-formed : (n : Vina) → well_formed_vina n ≡ true → well_formed_vina (vina_entered n) ≡ true
-unfolding vina_entered
-entered-formed n h = cond-holds (λ m. well_formed_vina m ≡ true) (auto_resets n.word) (with_asserted n 0) n (asserted-formed n 0 refl h) h
 
 -- One processor. `on` and `mbec` tell what the partition has of each level.
 module _ (z : Shape) (on mbec : ℕ → Bool) where
@@ -158,7 +137,7 @@ module _ (z : Shape) (on mbec : ℕ → Bool) where
   unfolding enter
   enter-sound p l reason a b c u g =
       let i = enabled-level z p l u in
-      active-sound _ l (put-sound p l (with_vina (with_control (context z p l) (record_of p reason)) (vina_entered (context z p l).vina)) i g (λ h. record {
+      active-sound _ l (put-sound p l (with_control (context z p l) (record_of p reason)) i g (λ h. record {
         part = h.part;
         entry = λ o e. unfold well_entered active_of in all_hold _ (lt-ltb (active_of p) l c, (g.current, (rw a, (b, tt))));
         words = h.words;
@@ -167,7 +146,6 @@ module _ (z : Shape) (on mbec : ℕ → Bool) where
         idle = h.idle;
         blank = λ o d. absurd (true≢false (sym u ∙ d));
         watched = h.watched;
-        told = λ o. entered-formed (context z p l).vina (h.told o);
       })) (rw (put-enabled z p l _ l) u)
 
   advanced-sound : (p : VirtualProcessor) (n : ℕ) → SoundVp p → SoundVp (advanced z p n)
@@ -196,35 +174,7 @@ module _ (z : Shape) (on mbec : ℕ → Bool) where
     idle = λ d. absurd (true≢false (sym u ∙ d));
     blank = h.blank;
     watched = h.watched;
-    told = h.told;
   })
-
-  -- A VINA word and state changed, where the new one is as well formed as the old.
-  pub set_vina-sound : (p : VirtualProcessor) (l : ℕ) (f : Vina → Vina) → is_level z l ≡ true → ((n : Vina) → well_formed_vina n ≡ true → well_formed_vina (f n) ≡ true) → SoundVp p → SoundVp (set_vina z p l (f (context z p l).vina))
-  unfolding set_vina
-  set_vina-sound p l f i k g =
-      put-sound p l _ i g (λ h. record { part = h.part; entry = h.entry; words = h.words; class = h.class; low = h.low; idle = h.idle; blank = h.blank; watched = h.watched; told = λ o. k (context z p l).vina (h.told o) })
-
-  -- The active level is told: its vector is one from 16 up, since its word is enabled.
-  notified-sound : (p : VirtualProcessor) → 0 < active_of p → vina_enabled (context z p (active_of p)).vina.word ≡ true → SoundVp p → SoundVp (notified z p)
-  unfolding notified
-  notified-sound p o on g =
-      let l = active_of p in
-      let n = (context z p l).vina in
-      let i = enabled-level z p l g.current in
-      let formed = (g.each l (level-low z l i)).told o in
-      let high : 16 ≤ vina_vector n.word = ltb-false (vina_vector n.word) 16 (and-not (vina_enabled n.word) (ltb (vina_vector n.word) 16) (not-true (vector_too_low n.word) (vina-vector n formed)) on) in
-      let q = set_pending z p l (vina_vector n.word) 1 in
-      set_vina-sound q l (λ m. with_asserted n 1) i (λ m h. asserted-formed n 1 refl formed) (set_pending-sound p l (vina_vector n.word) 1 high g.current g)
-
-  -- A vector that becomes pending changes neither the active level nor a VINA word.
-  pending-active : (p : VirtualProcessor) (l n x : ℕ) → active_of (set_pending z p l n x) ≡ active_of p
-  unfolding set_pending put_context active_of
-  pending-active p l n x = refl
-
-  pending-vina : (p : VirtualProcessor) (l n x j : ℕ) → (context z (set_pending z p l n x) j).vina ≡ (context z p j).vina
-  unfolding set_pending
-  pending-vina p l n x j = context-cases (λ c. c.vina ≡ (context z p j).vina) z p l j _ refl (λ e. rw e)
 
   pub interrupted-sound : (p : VirtualProcessor) (g n : ℕ) → 16 ≤ n → enabled_at z p g ≡ true → SoundVp p → SoundVp (interrupted z p g n)
   unfolding interrupted enters
@@ -239,17 +189,10 @@ module _ (z : Shape) (on mbec : ℕ → Bool) where
       still : enabled_at z q g ≡ true
       still = unfold set_pending in rw (put-enabled z p g _ g) u
 
-      enabled-q : notifies z p g n ≡ true → vina_enabled (context z q (active_of q)).vina.word ≡ true
-      enabled-q e = rw (pending-active p g n 1, pending-vina p g n 1 (active_of p)) (notifies-enabled z p g n e)
-
-      told : (b : Bool) → notifies z p g n ≡ b → SoundVp (cond b (notified z q) q)
-      told true e = notified-sound q (unfold set_pending put_context active_of in notifies-above z p g n e) (enabled-q e) sound-q
-      told false e = sound-q
-
-      go : (b : Bool) → ltb (active_of p) g ≡ b → (c : Bool) → SoundVp (cond (b && c) (enter z q g by_interrupt) (cond (notifies z p g n) (notified z q) q))
+      go : (b : Bool) → ltb (active_of p) g ≡ b → (c : Bool) → SoundVp (cond (b && c) (enter z q g by_interrupt) q)
       go true e true = enter-sound q g by_interrupt refl refl (unfold set_pending put_context active_of in ltb-true (active_of p) g e) still sound-q
-      go true e false = told (notifies z p g n) refl
-      go false e c = told (notifies z p g n) refl
+      go true e false = sound-q
+      go false e c = sound-q
 
   -- A vector that is ready is above 15.
   pub acknowledged-sound : (p : VirtualProcessor) → eqb (highest_ready (context z p (active_of p))) 0 ≡ false → SoundVp p → SoundVp (acknowledged z p)
@@ -262,19 +205,19 @@ module _ (z : Shape) (on mbec : ℕ → Bool) where
 
   pub set_tpr-sound : (p : VirtualProcessor) (l class : ℕ) → is_level z l ≡ true → leb class 15 ≡ true → SoundVp p → SoundVp (set_tpr z p l class)
   unfolding set_tpr
-  set_tpr-sound p l class i c g = put-sound p l _ i g (λ h. record { part = h.part; entry = h.entry; words = h.words; class = c; low = h.low; idle = h.idle; blank = h.blank; watched = h.watched; told = h.told })
+  set_tpr-sound p l class i c g = put-sound p l _ i g (λ h. record { part = h.part; entry = h.entry; words = h.words; class = c; low = h.low; idle = h.idle; blank = h.blank; watched = h.watched })
 
   -- What a level asks to be told of registers.
   pub set_watch-sound : (p : VirtualProcessor) (l : ℕ) (f : Watch → Watch) → is_level z l ≡ true → ((w : Watch) → not (intercept_reserved_set w.intercepts) ≡ true → not (intercept_reserved_set (f w).intercepts) ≡ true) → SoundVp p →
       SoundVp (set_watch z p l (f (context z p l).watch))
   unfolding set_watch
   set_watch-sound p l f i k g =
-      put-sound p l _ i g (λ h. record { part = h.part; entry = h.entry; words = h.words; class = h.class; low = h.low; idle = h.idle; blank = h.blank; watched = λ o. k (context z p l).watch (h.watched o); told = h.told })
+      put-sound p l _ i g (λ h. record { part = h.part; entry = h.entry; words = h.words; class = h.class; low = h.low; idle = h.idle; blank = h.blank; watched = λ o. k (context z p l).watch (h.watched o) })
 
   -- Secure words.
   words-sound : (p : VirtualProcessor) (t : ℕ) (ws : List ℕ) → is_level z t ≡ true → ((j : ℕ) → j < t → allowed (mbec t) (number_at 4 (context z p t).secure j) ≡ true → allowed (mbec t) (number_at 4 ws j) ≡ true) → SoundVp p →
       SoundVp (put_context z p t (with_secure (context z p t) ws))
-  words-sound p t ws i f g = put-sound p t _ i g (λ h. record { part = h.part; entry = h.entry; words = λ j b. f j b (h.words j b); class = h.class; low = h.low; idle = h.idle; blank = h.blank; watched = h.watched; told = h.told })
+  words-sound p t ws i f g = put-sound p t _ i g (λ h. record { part = h.part; entry = h.entry; words = λ j b. f j b (h.words j b); class = h.class; low = h.low; idle = h.idle; blank = h.blank; watched = h.watched })
 
   pub set_secure-sound : (p : VirtualProcessor) (t l w : ℕ) → is_level z t ≡ true → allowed (mbec t) w ≡ true → SoundVp p → SoundVp (set_secure z p t l w)
   unfolding set_secure
@@ -348,7 +291,6 @@ module _ (z : Shape) (on mbec : ℕ → Bool) where
           idle = λ d. absurd (true≢false d);
           blank = λ o d. absurd (true≢false d);
           watched = h.watched;
-          told = h.told;
         })
         (λ l n b. sound_more l (on l) (on l) (enabled_at z p l) (mbec l) (mbec l) (enabled_at z p) (enabled_at z q) (context z p l) (λ e. e) (λ e. e) more (g.each l b)) j b;
   }

@@ -13,13 +13,13 @@ use Rattle.model.specs.Answers.{Done, Refused, Intercept, Refusal}
 use Rattle.model.specs.Arrays.{number_at}
 use Rattle.model.specs.Bounded.{every}
 use Rattle.model.specs.Entry.{enter, highest_ready, next_up, called, returned, interrupted, started, acknowledged, by_interrupt}
-use Rattle.model.specs.Events.{own, configured, locked, watch_effect, vina_effect}
+use Rattle.model.specs.Events.{own, configured, locked, watch_effect}
 use Rattle.model.specs.Masks.{valid_mask, read_bit, write_bit, secure_reserved_set, protects}
 use Rattle.model.specs.Memory.{needed, mbec_on, smep_allows, mbec_counts, denies_in, denies, denied, receiver, host_denies_by, host_denies}
 use Rattle.model.specs.Registers.{register_of, cr0, cr4, rflags, rcx, protected_bit, is_private, private_of, shared_of}
-use Rattle.model.specs.State.{State, Shape, VirtualProcessor, Access, Mode, Watch, Vina as VinaState, level, processors, shape, pages, partition, is_processor, vp, context, active_of, active, enabled_at, enabled_on, enabled_anywhere, mask_of, host_mask_of, secure_of, mbec_bit}
-use Rattle.model.specs.Step.{Event, Enpart, Envp, Call, Ret, Read, Write, Fetch, Protect, Config, Secure, Flush, Rreg, Wreg, Tpr, Ack, Pstat, Vstat, Caps, Cri, Crm, Vina, Vclear, Made, Int, Host, Outcome, rule, rule_of, maker, mode_of, intercepted, next_for, ruled, step}
-use Rattle.model.specs.Updates.{enable_level, set_mask, set_register, set_tpr, set_secure, set_watch, with_intercepts, with_cr_mask, set_vina, with_vina_word, with_asserted}
+use Rattle.model.specs.State.{State, Shape, VirtualProcessor, Access, Mode, Watch, level, processors, shape, pages, partition, is_processor, vp, context, active_of, active, enabled_at, enabled_on, enabled_anywhere, mask_of, host_mask_of, secure_of, mbec_bit}
+use Rattle.model.specs.Step.{Event, Enpart, Envp, Call, Ret, Read, Write, Fetch, Protect, Config, Secure, Flush, Rreg, Wreg, Tpr, Ack, Pstat, Vstat, Caps, Cri, Crm, Made, Int, Outcome, rule, rule_of, maker, mode_of, intercepted, next_for, ruled, step}
+use Rattle.model.specs.Updates.{enable_level, set_mask, set_register, set_tpr, set_secure, set_watch, with_intercepts, with_cr_mask}
 use Rattle.model.specs.Watching.{asks_read, asks_write, watcher}
 use Rattle.model.specs.WellFormed.{well_sized, well_formed_context, well_formed_vp, well_formed_level, well_formed_parts, well_moded_vp, well_moded, well_formed}
 use Rattle.model.proofs.AnswerLaws.{Passed, Taken, given, condition-cases}
@@ -32,9 +32,9 @@ use Rattle.model.proofs.Found.{enabled-level}
 use Rattle.model.proofs.Formed.{is-processor, is-level, is-page, active-level, host-valid, mask-valid}
 use Rattle.model.proofs.LevelSets.{in-hidden}
 use Rattle.model.proofs.Visible
-use Rattle.model.proofs.Visible.{hidden, context-hide, enabled-same, tpr-same, pending-same, secure-same, control-same, watch-same, vina-same, highest-same}
+use Rattle.model.proofs.Visible.{hidden, context-hide, enabled-same, tpr-same, pending-same, secure-same, control-same, watch-same, highest-same}
 use Rattle.model.proofs.Whole
-use Rattle.model.proofs.Whole.{processors-same, shape_same, max_level_of-same, pages-same, processor-same, host-same, host-hide, lent_same, vp-hide, on_vp-hide, on_partition-hide, active-hide, enabled_on-hide, anywhere-hide, partition-hide, enabled_for-hide, mbec_for-hide, config-hide, protects-hide, mask-hide, word-hide, set_word-hide}
+use Rattle.model.proofs.Whole.{processors-same, shape_same, max_level_of-same, pages-same, processor-same, host-same, lent_same, vp-hide, on_vp-hide, on_partition-hide, active-hide, enabled_on-hide, anywhere-hide, partition-hide, enabled_for-hide, mbec_for-hide, config-hide, protects-hide, mask-hide, word-hide, set_word-hide}
 
 ruleset Same = (processors-same, shape_same, max_level_of-same, pages-same, active-hide, enabled_on-hide, anywhere-hide, enabled_for-hide, mbec_for-hide, config-hide, protects-hide, mask-hide)
 
@@ -56,7 +56,7 @@ module _ (K : ℕ) (E : ℕ → Bool) (z : Shape) (p : VirtualProcessor) where
 
       go : (l : ℕ) → formed_in (hide_vp K E z p) l on mbec ≡ formed_in p l on mbec
       go zero = simp (enabled-same, words, tpr-same, pending-same)
-      go (suc l) = simp (enabled-same, words, tpr-same, pending-same, control-same K E z p (suc l) (omega arith), watch-same K E z p (suc l) (omega arith), vina-same K E z p (suc l) (omega arith))
+      go (suc l) = simp (enabled-same, words, tpr-same, pending-same, control-same K E z p (suc l) (omega arith), watch-same K E z p (suc l) (omega arith))
 
 -- CR0 bit 0 stays set where an enabled level's registers are hidden.
 cr0-kept : (z : Shape) (h : Bool) (xs : List ℕ) → bit (number_at 13 xs cr0) protected_bit ≡ true → bit (number_at 13 (map_at (λ r x. cond (is_private z r) (cond h (cond (eqb r cr0 && true) 1 0) x) 0) xs) cr0) protected_bit ≡ true
@@ -108,7 +108,7 @@ module _ (K : ℕ) (E : ℕ → Bool) (H : ℕ → Bool) where
 
   parts-hide : (s : State) → well_formed_parts (hide K E H s) ≡ well_formed_parts s
   unfolding well_formed_parts
-  parts-hide s = simp (host-same, host-hide, mbec_for-hide, processor-same, vp-formed, level-formed)
+  parts-hide s = simp (host-same, mbec_for-hide, processor-same, vp-formed, level-formed)
 
   enabled-at : (s : State) (v l : ℕ) → enabled_on s v l ≡ true → enabled_at (shape s) (vp s v) l ≡ true
   unfolding enabled_on
@@ -149,8 +149,8 @@ module _ (K : ℕ) (E : ℕ → Bool) (H : ℕ → Bool) where
   receiver-same s v h mode p a = simp (denies-same s v h, enabled_on-hide)
 
   host_denies-same : (s : State) (p : ℕ) (a : Access) → host_denies (hide K E H s) p a ≡ host_denies s p a
-  unfolding host_denies
-  host_denies-same s p a = simp host-hide
+  unfolding host_denies host_mask_of
+  host_denies-same s p a = simp host-same
 
   own_same : (s : State) (v r : ℕ) → active s v < K → is_private (shape s) r ≡ true → own (hide K E H s) v r ≡ own s v r
   unfolding own
@@ -205,14 +205,11 @@ module _ (K : ℕ) (E : ℕ → Bool) (H : ℕ → Bool) where
   refusals-same k s (Made v mode (Tpr class)) c = simp Same
   refusals-same k s (Made v mode Ack) c = let low : active s v.0 < K = maker-low k s v.0 c in simp (processors-same, active-hide, highest-hide, own_same s v.0 rflags low refl)
   refusals-same k s (Int w g n) c = simp Same
-  refusals-same k s (Host p m) c = simp Same
   refusals-same k s (Made v mode Pstat) c = simp Same
   refusals-same k s (Made v mode Vstat) c = simp Same
   refusals-same k s (Made v mode Caps) c = simp Same
   refusals-same k s (Made v mode (Cri word)) c = simp Same
   refusals-same k s (Made v mode (Crm n mask)) c = simp Same
-  refusals-same k s (Made v mode (Vina word)) c = simp Same
-  refusals-same k s (Made v mode Vclear) c = simp Same
 
   abbrev pub hide_outcome : Outcome → Outcome
   hide_outcome o = record { answer = o.answer; next = hide K E H o.next }
@@ -237,11 +234,6 @@ module _ (K : ℕ) (E : ℕ → Bool) (H : ℕ → Bool) where
         on_vp-hide K E H s v (λ z p. set_watch z p (active_of p) (f (context z p (active_of p)).watch)) inside
         (rw Visible.active-same (Visible.set_watch-hide K E (shape s) (vp s v) (active_of (vp s v)) f (active-level s w v inside) above))
 
-    vina-hide : (v : ℕ) (f : VinaState → VinaState) → is_processor s v ≡ true → 0 < active_of (vp s v) → vina_effect (hide K E H s) v f ≡ hide K E H (vina_effect s v f)
-    vina-hide v f inside above =
-        on_vp-hide K E H s v (λ z p. set_vina z p (active_of p) (f (context z p (active_of p)).vina)) inside
-        (rw Visible.active-same (Visible.set_vina-hide K E (shape s) (vp s v) (active_of (vp s v)) f (active-level s w v inside) above))
-
     effect-hide : (e : Event) → quiet_maker K s (maker e) ≡ true → Passed (rule s e).refusals → (rule (hide K E H s) e).effect ≡ hide K E H (rule s e).effect
     unfolding rule rule_of maker active
     effect-hide (Made v mode (Enpart t mbec)) c ps = on_partition-hide K E H s (λ z x. enable_level z x t.0 (eqb mbec 1)) (Whole.enable_level-hide K E H s (partition s) t.0 (eqb mbec 1) (is-level s w t.0 search))
@@ -258,7 +250,7 @@ module _ (K : ℕ) (E : ℕ → Bool) (H : ℕ → Bool) where
     effect-hide (Made v mode (Write p x)) c ps = set_word-hide K E H s p.0 x (open-page Access.Write write_bit (unfold needed in λ m mode. refl) read-of-write v.0 (mode_of mode) p.0 (maker-low k s v.0 c) (search) (search))
     effect-hide (Made v mode (Fetch p)) c ps = refl
     effect-hide (Made v mode (Protect p m)) c ps =
-        rw active-hide (on_partition-hide K E H s (λ z x. set_mask x (active s v.0) p.0 m) (Whole.set_mask-hide K E H s (partition s) (active s v.0) p.0 m (active-level s w v.0 (is-processor s w v.0 search)) (is-page s w p.0 search)))
+        rw active-hide (on_partition-hide K E H s (λ z x. set_mask x (active s v.0) p.0 m) (Whole.set_mask-hide K E H s (partition s) (active s v.0) p.0 m (positive _ search) (active-level s w v.0 (is-processor s w v.0 search)) (is-page s w p.0 search)))
     effect-hide (Made v mode (Config g x)) c ps =
         rw pages-same (on_partition-hide K E H s (λ z y. configured z (pages s) y g.0 x) (Whole.configured-hide K E H s (partition s) g.0 x (positive _ search) (is-level s w g.0 search)))
     effect-hide (Made v mode (Secure l x)) c ps =
@@ -277,14 +269,11 @@ module _ (K : ℕ) (E : ℕ → Bool) (H : ℕ → Bool) where
         let inside = is-processor s w v.0 search in
         on_vp-hide K E H s v.0 acknowledged inside (Visible.acknowledged-hide K E (shape s) (vp s v.0) (active-level s w v.0 inside))
     effect-hide (Int u g n) c ps =
-        on_vp-hide K E H s u.0 (λ z p. interrupted z p g.0 n) (is-processor s w u.0 search) (Visible.interrupted-hide K E (shape s) (vp s u.0) g.0 n (is-level s w g.0 search) (active-level s w u.0 (is-processor s w u.0 search)))
-    effect-hide (Host p m) c ps = absurd (false≢true (sym ps.1.1.0))
+        on_vp-hide K E H s u.0 (λ z p. interrupted z p g.0 n) (is-processor s w u.0 search) (Visible.interrupted-hide K E (shape s) (vp s u.0) g.0 n (is-level s w g.0 search))
     effect-hide (Made v mode Pstat) c ps = refl
     effect-hide (Made v mode Vstat) c ps = refl
     effect-hide (Made v mode Caps) c ps = refl
     effect-hide (Made v mode (Cri word)) c ps = watch-hide v.0 (λ w. with_intercepts w word) (is-processor s w v.0 search) (positive (active_of (vp s v.0)) search)
-    effect-hide (Made v mode (Vina word)) c ps = vina-hide v.0 (λ n. with_vina_word n word) (is-processor s w v.0 search) (positive (active_of (vp s v.0)) search)
-    effect-hide (Made v mode Vclear) c ps = vina-hide v.0 (λ n. with_asserted n 0) (is-processor s w v.0 search) (positive (active_of (vp s v.0)) search)
     effect-hide (Made v mode (Crm n mask)) c ps = watch-hide v.0 (λ w. with_cr_mask w (eqb n 4) mask) (is-processor s w v.0 search) (positive (active_of (vp s v.0)) search)
 
     value_same : (e : Event) → quiet_maker K s (maker e) ≡ true → Passed (rule s e).refusals → (rule (hide K E H s) e).value ≡ (rule s e).value
@@ -311,14 +300,11 @@ module _ (K : ℕ) (E : ℕ → Bool) (H : ℕ → Bool) where
     value_same (Made v mode (Tpr class)) c ps = refl
     value_same (Made v mode Ack) c ps = simp (active-hide, highest-hide)
     value_same (Int u g n) c ps = simp (shape_same, vp-hide, Visible.enters-same)
-    value_same (Host p m) c ps = refl
     value_same (Made v mode Pstat) c ps = simp Same
     value_same (Made v mode Vstat) c ps = simp (Same, needs-same)
     value_same (Made v mode Caps) c ps = simp Same
     value_same (Made v mode (Cri word)) c ps = refl
     value_same (Made v mode (Crm n mask)) c ps = refl
-    value_same (Made v mode (Vina word)) c ps = refl
-    value_same (Made v mode Vclear) c ps = refl
 
     -- An intercept enters the receiver, a level above 0, on the maker's processor.
     intercepted-hide : (e : Event) (l : ℕ) → Taken s e l → intercepted (hide K E H s) (maker e) l ≡ hide K E H (intercepted s (maker e) l)

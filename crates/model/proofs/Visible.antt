@@ -11,15 +11,14 @@ use borrow.Author.Tests.{lt-ltb, lt-leb, ne_eqb, ltb-true, ltb-false, eqb-true, 
 use Rattle.word.specs.Field.{put}
 use Rattle.model.specs.Arrays.{number_at, stored}
 use Rattle.model.specs.Bounded.{least}
-use Rattle.model.specs.Entry.{record_of, enter, is_ready, highest_ready, next_up, advanced, called, restored, waiting, reentered, left, returned, enters, notifies, notified, interrupted, started_context, started, acknowledged, by_call, by_interrupt}
+use Rattle.model.specs.Entry.{record_of, enter, is_ready, highest_ready, next_up, advanced, called, restored, waiting, reentered, left, returned, enters, interrupted, started_context, started, acknowledged, by_call, by_interrupt}
 use Rattle.model.specs.Registers.{rip, cr0, dr6, rax, rcx, is_private, private_of, shared_of, register_of}
-use Rattle.model.specs.State.{Context, Shape, VirtualProcessor, LevelSet, Watch, Vina, no_level, no_control, no_watch, no_vina, no_context, past_context, is_level, in_set, context, active_of, enabled_at, secure_of, is_pending, lock_bit}
-use Rattle.model.specs.Updates.{with_registers, with_tpr, with_pending, with_secure, with_control, with_watch, with_vina, with_asserted, with_active, put_context, set_shared, set_private, set_register, set_tpr, set_pending, set_secure, set_watch, set_vina, cleared, unlocked, with_level}
-use Rattle.model.specs.VinaWord.{vina_vector, vina_enabled, vina_entered}
+use Rattle.model.specs.State.{Context, Shape, VirtualProcessor, LevelSet, Watch, no_level, no_control, no_watch, no_context, past_context, is_level, in_set, context, active_of, enabled_at, secure_of, is_pending, lock_bit}
+use Rattle.model.specs.Updates.{with_registers, with_tpr, with_pending, with_secure, with_control, with_watch, with_active, put_context, set_shared, set_private, set_register, set_tpr, set_pending, set_secure, set_watch, cleared, unlocked, with_level}
 use Rattle.model.specs.Watching.{watcher}
 use Rattle.model.proofs.Bools.{and-not, or_left, or_right, cond_same, cond-ap, cond-holds}
 use Rattle.model.proofs.LevelSets.{in-hidden, in-here, in-other, with-hidden}
-use Rattle.model.proofs.Found.{enabled-level, next_up-found, waiting-found, notifies-above, advanced-active, unlocked-active}
+use Rattle.model.proofs.Found.{enabled-level, next_up-found, waiting-found, advanced-active, unlocked-active}
 use Rattle.model.specs.Hide.{hides, hide_context, hide_level, hide_vp}
 use Rattle.model.specs.MapAt.{map_at}
 use Rattle.model.proofs.Maps.{map_at-nil, length-map_at, get_or-map_at, map_at-set, map_at-set-other, map_at-stored, map_at-replicate, number-map_at}
@@ -31,7 +30,7 @@ register-none z h r = simp (and-false, cond_same)
 pub hide_context-none : (z : Shape) (h : Bool) (l : ℕ) → hide_context z h false l no_context ≡ no_context
 unfolding hide_context
 hide_context-none z h l =
-    rw (map_at-replicate {A = ℕ} (λ r x. cond (is_private z r) (cond h (cond (eqb r cr0 && false) 1 0) x) 0) 13 0 (register-none z h), map_at-replicate {A = ℕ} (λ j w. cond (ltb j l) w 0) 4 0 (λ j. cond_same (ltb j l) 0), cond_same (eqb l 0) no_control, cond_same (eqb l 0) no_watch, cond_same (eqb l 0) no_vina)
+    rw (map_at-replicate {A = ℕ} (λ r x. cond (is_private z r) (cond h (cond (eqb r cr0 && false) 1 0) x) 0) 13 0 (register-none z h), map_at-replicate {A = ℕ} (λ j w. cond (ltb j l) w 0) 4 0 (λ j. cond_same (ltb j l) 0), cond_same (eqb l 0) no_control, cond_same (eqb l 0) no_watch)
 
 hide_context-past : (z : Shape) (h on : Bool) (l : ℕ) → hide_context z h on l past_context ≡ past_context
 unfolding hide_context
@@ -179,16 +178,6 @@ module _ (K : ℕ) (E : ℕ → Bool) (z : Shape) where
   unfolding set_watch hidden hide_context
   set_watch-hide p l f k o = alter-hide p l (λ c. with_watch c (f c.watch)) k (rw (ne_eqb l 0 (λ e. omega arith)))
 
-  -- The VINA word and state of a level above 0.
-  pub vina-same : (p : VirtualProcessor) (l : ℕ) → 0 < l → (context z (hide_vp K E z p) l).vina ≡ (context z p l).vina
-  unfolding hidden hide_context
-  vina-same p l o = rw (context-hide, ne_eqb l 0 (λ e. omega arith))
-
-  pub set_vina-hide : (p : VirtualProcessor) (l : ℕ) (f : Vina → Vina) → is_level z l ≡ true → 0 < l →
-      set_vina z (hide_vp K E z p) l (f (context z (hide_vp K E z p) l).vina) ≡ hide_vp K E z (set_vina z p l (f (context z p l).vina))
-  unfolding set_vina hidden hide_context
-  set_vina-hide p l f k o = alter-hide p l (λ c. with_vina c (f c.vina)) k (rw (ne_eqb l 0 (λ e. omega arith)))
-
   pub set_tpr-hide : (p : VirtualProcessor) (l class : ℕ) → is_level z l ≡ true → set_tpr z (hide_vp K E z p) l class ≡ hide_vp K E z (set_tpr z p l class)
   unfolding set_tpr hidden hide_context
   set_tpr-hide p l class k = alter-hide p l (λ c. with_tpr c class) k refl
@@ -217,8 +206,7 @@ module _ (K : ℕ) (E : ℕ → Bool) (z : Shape) where
   unfolding enter hidden hide_context
   enter-hide p l reason o k =
       let same : record_of (hide_vp K E z p) reason ≡ record_of p reason = unfold hide_vp in (λ i. record { reason = reason; from = p.active; rax = shared-hide p rax refl i; rcx = shared-hide p rcx refl i }) in
-      rw same (ap (λ q. with_active q l) (alter-hide p l (λ c. with_vina (with_control c (record_of p reason)) (vina_entered c.vina)) k (rw (ne_eqb l 0 (λ e. omega arith))))
-      ∙ with_active-hide (put_context z p l (with_vina (with_control (context z p l) (record_of p reason)) (vina_entered (context z p l).vina))) l)
+      rw same (ap (λ q. with_active q l) (alter-hide p l (λ c. with_control c (record_of p reason)) k (rw (ne_eqb l 0 (λ e. omega arith)))) ∙ with_active-hide (put_context z p l (with_control (context z p l) (record_of p reason))) l)
 
   -- Call, return, interrupt.
   pub next_up-same : (p : VirtualProcessor) → next_up z (hide_vp K E z p) ≡ next_up z p
@@ -273,38 +261,17 @@ module _ (K : ℕ) (E : ℕ → Bool) (z : Shape) where
   unfolding enters
   enters-same p g n = simp (active-same, ready-same)
 
-  -- The active level is told that someone waits.
-  pub notifies-same : (p : VirtualProcessor) (g n : ℕ) → notifies z (hide_vp K E z p) g n ≡ notifies z p g n
-  unfolding notifies
-  notifies-same p g n = rw active-same (go (ltb g (active_of p)) refl)
-    where
-      go : (b : Bool) → ltb g (active_of p) ≡ b → (let v = (context z (hide_vp K E z p) (active_of p)).vina in b && is_ready (context z (hide_vp K E z p) g) n && vina_enabled v.word && eqb v.asserted 0)
-          ≡ (let v = (context z p (active_of p)).vina in b && is_ready (context z p g) n && vina_enabled v.word && eqb v.asserted 0)
-      go true e = rw (ready-same, vina-same p (active_of p) (let o : g < active_of p = ltb-true g (active_of p) e in omega arith))
-      go false e = refl
-
-  pub notified-hide : (p : VirtualProcessor) → is_level z (active_of p) ≡ true → 0 < active_of p → notified z (hide_vp K E z p) ≡ hide_vp K E z (notified z p)
-  unfolding notified
-  notified-hide p k o =
-      rw (active-same, vina-same p (active_of p) o, set_pending-hide p (active_of p) (vina_vector (context z p (active_of p)).vina.word) 1 k)
-      (set_vina-hide (set_pending z p (active_of p) (vina_vector (context z p (active_of p)).vina.word) 1) (active_of p) (λ n. with_asserted (context z p (active_of p)).vina 1) k o)
-
-  pub interrupted-hide : (p : VirtualProcessor) (g n : ℕ) → is_level z g ≡ true → is_level z (active_of p) ≡ true → interrupted z (hide_vp K E z p) g n ≡ hide_vp K E z (interrupted z p g n)
+  pub interrupted-hide : (p : VirtualProcessor) (g n : ℕ) → is_level z g ≡ true → interrupted z (hide_vp K E z p) g n ≡ hide_vp K E z (interrupted z p g n)
   unfolding interrupted enters
-  interrupted-hide p g n k a = rw (enters-same, notifies-same, set_pending-hide p g n 1 k) (go (ltb (active_of p) g) refl (is_ready (context z p g) n) (notifies z p g n) refl)
+  interrupted-hide p g n k = rw (enters-same, set_pending-hide p g n 1 k) (go (ltb (active_of p) g) refl (is_ready (context z p g) n))
     where
       q : VirtualProcessor
       q = set_pending z p g n 1
 
-      told : (b : Bool) → notifies z p g n ≡ b → cond b (notified z (hide_vp K E z q)) (hide_vp K E z q) ≡ hide_vp K E z (cond b (notified z q) q)
-      told true e = notified-hide q (unfold set_pending put_context active_of in a) (unfold set_pending put_context active_of in notifies-above z p g n e)
-      told false e = refl
-
-      go : (a : Bool) → ltb (active_of p) g ≡ a → (b c : Bool) → notifies z p g n ≡ c
-          → cond (a && b) (enter z (hide_vp K E z q) g by_interrupt) (cond c (notified z (hide_vp K E z q)) (hide_vp K E z q)) ≡ hide_vp K E z (cond (a && b) (enter z q g by_interrupt) (cond c (notified z q) q))
-      go true e true c d = enter-hide q g by_interrupt (omega (arith, ltb-true (active_of p) g e)) k
-      go true e false c d = told c d
-      go false e b c d = told c d
+      go : (a : Bool) → ltb (active_of p) g ≡ a → (b : Bool) → cond (a && b) (enter z (hide_vp K E z q) g by_interrupt) (hide_vp K E z q) ≡ hide_vp K E z (cond (a && b) (enter z q g by_interrupt) q)
+      go true e true = enter-hide q g by_interrupt (omega (arith, ltb-true (active_of p) g e)) k
+      go true e false = refl
+      go false e b = refl
 
   pub acknowledged-hide : (p : VirtualProcessor) → is_level z (active_of p) ≡ true → acknowledged z (hide_vp K E z p) ≡ hide_vp K E z (acknowledged z p)
   unfolding acknowledged

@@ -5,14 +5,14 @@ use mathlib.Core.Bool.{Bool, true, false, not, cond, ◌&&◌}
 use mathlib.Core.List.{List}
 use Prim.Native.Nat.{ℕ, zero, suc, ◌+◌, ◌*◌, ◌/◌, ◌%◌, ◌≤◌, ◌<◌}
 use native.Mathlib.Omega.{arith}
-use lib.Dec.{ltb, eqb, leb-zero}
+use lib.Dec.{ltb, eqb}
 use lib.ListN.{length, get_or}
 use borrow.Author.Tests.{lt-ltb}
 use Rattle.model.specs.Arrays.{number_at, stored}
 use Rattle.model.specs.Events.{configured}
 use Rattle.model.specs.Masks.{turns_on, default_mask, protects_in, protects}
 use Rattle.model.specs.Memory.{denies_in}
-use Rattle.model.specs.State.{State, Partition, Shape, VirtualProcessor, Access, Mode, level_set, no_context, no_vp, past_vp, processors, shape, top, max_level_of, pages, partition, is_level, is_processor, is_page, vp, active_of, active, enabled_on, enabled_anywhere, enabled_for, mbec_for, config_in, config_of, mask_in, mask_of, host_level, host_in, host_mask_of, word_of}
+use Rattle.model.specs.State.{State, Partition, Shape, VirtualProcessor, Access, Mode, level_set, no_context, no_vp, past_vp, processors, shape, top, max_level_of, pages, partition, is_level, is_processor, is_page, vp, active_of, active, enabled_on, enabled_anywhere, enabled_for, mbec_for, config_in, config_of, mask_in, mask_of, host_mask_of, word_of}
 use Rattle.model.specs.Updates.{enable_level, set_config, put_vp, put_partition, set_mask, filled, fill_masks, set_word, on_vp, on_partition}
 use Rattle.model.proofs.Bools.{and_left, and_right, cond_same, cond-ap}
 use Rattle.model.proofs.BoundedLaws.{any-cong}
@@ -150,15 +150,12 @@ module _ (K : ℕ) (E : ℕ → Bool) (H : ℕ → Bool) where
   set_config-hide s x l w o i = rw (map_at-stored, lt-ltb 0 l o, i)
 
   -- Masks. A mask that is read is in use.
-  mask-place : (s : State) (l p : ℕ) → l < 4 → is_mask s (4 * p + l) ≡ (is_level (shape s) l && is_page s p)
+  mask-place : (s : State) (l p : ℕ) → l < 4 → is_mask s (4 * p + l) ≡ (ltb 0 l && is_level (shape s) l && is_page s p)
   unfolding is_mask
   mask-place s l p h =
       let a : (4 * p + l) % 4 ≡ l = omega arith in
       let b : (4 * p + l) / 4 ≡ p = omega arith in
       rw (a, b)
-
-  mask-used : (s : State) (l p : ℕ) → is_level (shape s) l ≡ true → is_page s p ≡ true → is_mask s (4 * p + l) ≡ true
-  mask-used s l p b c = mask-place s l p (level-low (shape s) l b) ∙ rw (b, c)
 
   mask_in-hide : (s : State) (x : Partition) (l p : ℕ) → mask_in (shape s) (pages s) (hide_partition s x).masks l p ≡ mask_in (shape s) (pages s) x.masks l p
   unfolding mask_in hide_partition is_page
@@ -166,27 +163,9 @@ module _ (K : ℕ) (E : ℕ → Bool) (H : ℕ → Bool) where
     where
       go : (b : Bool) → (ltb 0 l && is_level (shape s) l && is_page s p) ≡ b → cond b (number_at 256 (map_at (λ i k. cond (is_mask s i) k 0) x.masks) (4 * p + l)) 0 ≡ cond b (number_at 256 x.masks (4 * p + l)) 0
       go true e =
-          let level : is_level (shape s) l ≡ true = and_right (ltb 0 l) (is_level (shape s) l) (and_left (ltb 0 l && is_level (shape s) l) (is_page s p) e) in
-          let page : is_page s p ≡ true = and_right (ltb 0 l && is_level (shape s) l) (is_page s p) e in
-          number-map_at (λ i k. cond (is_mask s i) k 0) 256 x.masks (4 * p + l) (cond_same (is_mask s (4 * p + l)) 0) ∙ rw (mask-used s l p level page)
+          let below = level-low (shape s) l (and_right (ltb 0 l) (is_level (shape s) l) (and_left (ltb 0 l && is_level (shape s) l) (is_page s p) e)) in
+          number-map_at (λ i k. cond (is_mask s i) k 0) 256 x.masks (4 * p + l) (cond_same (is_mask s (4 * p + l)) 0) ∙ rw (mask-place s l p below, e)
       go false e = refl
-
-  -- The host's masks.
-  host-level : (s : State) → is_level (shape s) host_level ≡ true
-  unfolding is_level
-  host-level s = rw leb-zero
-
-  host_in-hide : (s : State) (x : Partition) (p : ℕ) → host_in (pages s) (hide_partition s x).masks p ≡ host_in (pages s) x.masks p
-  unfolding host_in hide_partition is_page
-  host_in-hide s x p = go (is_page s p) refl
-    where
-      go : (b : Bool) → is_page s p ≡ b → cond b (number_at 256 (map_at (λ i k. cond (is_mask s i) k 0) x.masks) (4 * p + host_level)) 0 ≡ cond b (number_at 256 x.masks (4 * p + host_level)) 0
-      go true e = number-map_at (λ i k. cond (is_mask s i) k 0) 256 x.masks (4 * p + host_level) (cond_same (is_mask s (4 * p + host_level)) 0) ∙ rw (mask-used s host_level p (host-level s) e)
-      go false e = refl
-
-  pub host-hide : (s : State) (p : ℕ) → host_mask_of (hide K E H s) p ≡ host_mask_of s p
-  unfolding host_mask_of
-  host-hide s p = rw (pages-same, partition-hide) (host_in-hide s (partition s) p)
 
   pub mask-hide : (s : State) (l p : ℕ) → mask_of (hide K E H s) l p ≡ mask_of s l p
   unfolding mask_of
@@ -197,31 +176,34 @@ module _ (K : ℕ) (E : ℕ → Bool) (H : ℕ → Bool) where
   unfolding denies_in
   denies-hide s x l mode p a t b = rw (protects_in-hide s x t, mask_in-hide s x t p)
 
-  pub set_mask-hide : (s : State) (x : Partition) (l p k : ℕ) → is_level (shape s) l ≡ true → is_page s p ≡ true → set_mask (hide_partition s x) l p k ≡ hide_partition s (set_mask x l p k)
-  unfolding set_mask hide_partition
-  set_mask-hide s x l p k b c = rw (map_at-stored, mask-used s l p b c)
+  mask-used : (s : State) (l p : ℕ) → 0 < l → is_level (shape s) l ≡ true → is_page s p ≡ true → is_mask s (4 * p + l) ≡ true
+  mask-used s l p a b c = mask-place s l p (level-low (shape s) l b) ∙ rw (lt-ltb 0 l a, b, c)
 
-  filled-hide : (s : State) (l k n : ℕ) → is_level (shape s) l ≡ true → n ≤ 64 → (ms : List ℕ) →
+  pub set_mask-hide : (s : State) (x : Partition) (l p k : ℕ) → 0 < l → is_level (shape s) l ≡ true → is_page s p ≡ true → set_mask (hide_partition s x) l p k ≡ hide_partition s (set_mask x l p k)
+  unfolding set_mask hide_partition
+  set_mask-hide s x l p k a b c = rw (map_at-stored, mask-used s l p a b c)
+
+  filled-hide : (s : State) (l k n : ℕ) → 0 < l → is_level (shape s) l ≡ true → n ≤ 64 → (ms : List ℕ) →
       filled n (pages s) l k (map_at (λ i x. cond (is_mask s i) x 0) ms) ≡ map_at (λ i x. cond (is_mask s i) x 0) (filled n (pages s) l k ms)
   unfolding filled
-  filled-hide s l k zero b c ms = refl
-  filled-hide s l k (suc n) b c ms = rw (filled-hide s l k n b (omega arith) ms) (go (ltb n (pages s)) refl)
+  filled-hide s l k zero a b c ms = refl
+  filled-hide s l k (suc n) a b c ms = rw (filled-hide s l k n a b (omega arith) ms) (go (ltb n (pages s)) refl)
     where
       hidden : List ℕ → List ℕ
       hidden = map_at (λ i x. cond (is_mask s i) x 0)
 
       go : (d : Bool) → ltb n (pages s) ≡ d → cond d (stored 256 (hidden (filled n (pages s) l k ms)) (4 * n + l) k) (hidden (filled n (pages s) l k ms)) ≡ hidden (cond d (stored 256 (filled n (pages s) l k ms) (4 * n + l) k) (filled n (pages s) l k ms))
-      go true e = rw (map_at-stored, mask-used s l n b (unfold is_page in rw (e, lt-ltb n 64 (omega arith))))
+      go true e = rw (map_at-stored, mask-used s l n a b (unfold is_page in rw (e, lt-ltb n 64 (omega arith))))
       go false e = refl
 
-  fill_masks-hide : (s : State) (x : Partition) (l k : ℕ) → is_level (shape s) l ≡ true → fill_masks (pages s) (hide_partition s x) l k ≡ hide_partition s (fill_masks (pages s) x l k)
+  fill_masks-hide : (s : State) (x : Partition) (l k : ℕ) → 0 < l → is_level (shape s) l ≡ true → fill_masks (pages s) (hide_partition s x) l k ≡ hide_partition s (fill_masks (pages s) x l k)
   unfolding fill_masks hide_partition
-  fill_masks-hide s x l k b = rw (filled-hide s l k 64 b (omega arith) x.masks)
+  fill_masks-hide s x l k a b = rw (filled-hide s l k 64 a b (omega arith) x.masks)
 
   pub configured-hide : (s : State) (x : Partition) (g w : ℕ) → 0 < g → is_level (shape s) g ≡ true → configured (shape s) (pages s) (hide_partition s x) g w ≡ hide_partition s (configured (shape s) (pages s) x g w)
   unfolding configured
   configured-hide s x g w a b =
-      rw (protects_in-hide, set_config-hide s x g w a b, fill_masks-hide s (set_config x g w) g (default_mask w) b)
+      rw (protects_in-hide, set_config-hide s x g w a b, fill_masks-hide s (set_config x g w) g (default_mask w) a b)
       (cond-ap (hide_partition s) (turns_on w && not (protects_in (shape s) x.configs g)) (fill_masks (pages s) (set_config x g w) g (default_mask w)) (set_config x g w))
 
   -- Words.
@@ -234,5 +216,5 @@ module _ (K : ℕ) (E : ℕ → Bool) (H : ℕ → Bool) where
   set_word-hide s p x h = rw (map_at-set, h)
 
   pub closed_same : (s : State) (p : ℕ) → closed K (hide K E H s) p ≡ closed K s p
-  unfolding closed
-  closed_same s p = simp (host-hide, protects-hide, mask-hide)
+  unfolding closed host_mask_of
+  closed_same s p = simp (host-same, protects-hide, mask-hide)

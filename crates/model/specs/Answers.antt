@@ -27,7 +27,6 @@ refusal_number refusal.InvalidMask = 1
 refusal_number refusal.ReservedBits = 1
 refusal_number refusal.Cr0InRealMode = 1
 refusal_number refusal.NoSuchMask = 1
-refusal_number refusal.VinaVectorTooLow = 1
 -- 2: #UD: user mode for anything but read, write, fetch; or a call or return that the rules fault
 refusal_number refusal.UserMode = 2
 refusal_number refusal.CallInRealMode = 2
@@ -45,8 +44,6 @@ refusal_number refusal.TargetAbove = 4
 refusal_number refusal.TargetNotBelow = 4
 refusal_number refusal.ProtectAtLevelZero = 4
 refusal_number refusal.WatchAtLevelZero = 4
-refusal_number refusal.VinaAtLevelZero = 4
-refusal_number refusal.HostLate = 4
 -- 5: already enabled
 refusal_number refusal.EnabledForPartition = 5
 refusal_number refusal.EnabledOnProcessor = 5

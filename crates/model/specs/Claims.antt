@@ -4,16 +4,14 @@ use Rattle.std.specs.Bool.{beq}
 use Rattle.std.proofs.Math.Option.{some}
 use Rattle.word.specs.RegisterFields.{position_of}
 use Rattle.model.specs.Arrays.{number_at}
-use Rattle.model.specs.Answers.{Answer, Done, Refused, Refusal, number_of, value_of, ◌when◌}
+use Rattle.model.specs.Answers.{Answer, Refusal, number_of, value_of, ◌when◌}
 use Rattle.model.specs.Cases.{cases, given, expected}
-use Rattle.model.specs.Entry.{enter, enters, notifies, acknowledged, is_ready, highest_ready, top_vector, waiting, by_interrupt}
-use Rattle.model.specs.declared.quantity.Page.{Page}
-use Rattle.model.specs.Events.{host}
+use Rattle.model.specs.Entry.{enter, enters, is_ready, highest_ready, top_vector, waiting, by_interrupt}
 use Rattle.model.specs.Fresh.{admissible, fresh}
 use Rattle.model.specs.Registers.{rflags, rax, register_of}
-use Rattle.model.specs.State.{State, Context, FirstLine, Shape, VirtualProcessor, context, processors, partition, active, enabled_on, mask_of, host_mask_of, is_pending}
+use Rattle.model.specs.State.{State, Context, FirstLine, Shape, VirtualProcessor, processors, active, enabled_on, is_pending}
 use Rattle.model.specs.Updates.{on_vp, set_private, set_register}
-use Rattle.model.specs.Step.{Event, Host, Outcome, rule, maker, step, hosted}
+use Rattle.model.specs.Step.{Event, Outcome, rule, maker, step}
 use Rattle.model.specs.Watching.{WatchedAccess, reads, not_modelled, watch_table, intercept_control_number, asked_in}
 use Rattle.model.specs.WellFormed.{well_formed}
 
@@ -69,16 +67,9 @@ StepKeeps = (s : State) (e : Event) → well_formed s ≡ true → well_formed (
 abbrev pub SharedByAll : Type 0
 SharedByAll = (z : Shape) (p : VirtualProcessor) (l m r x : ℕ) → length p.shared ≡ 20 → rax ≤ r → r ≤ 31 → register_of z (set_register z p l r x) m r ≡ x
 
--- RFLAGS.IF plays no part (001; 02, request 8): whatever RFLAGS a level has, an interrupt enters the same level, and so does a return, and an
--- interrupt for a lower level is told to the active one or not.
+-- RFLAGS.IF plays no part (001): whatever RFLAGS a level has, an interrupt enters the same level, and so does a return.
 abbrev pub FlagsPlayNoPart : Type 0
-FlagsPlayNoPart = (z : Shape) (p : VirtualProcessor) (l x g n : ℕ) →
-    let q = set_private z p l rflags x in
-    (enters z q g n ≡ enters z p g n) × (waiting z q ≡ waiting z p) × (notifies z q g n ≡ notifies z p g n)
-
--- Taking a vector does not clear the asserted state, nor change a VINA word (02, request 8).
-abbrev pub TakingKeepsState : Type 0
-TakingKeepsState = (z : Shape) (p : VirtualProcessor) (l : ℕ) → (context z (acknowledged z p) l).vina ≡ (context z p l).vina
+FlagsPlayNoPart = (z : Shape) (p : VirtualProcessor) (l x g n : ℕ) → (enters z (set_private z p l rflags x) g n ≡ enters z p g n) × (waiting z (set_private z p l rflags x) ≡ waiting z p)
 
 -- 02, request 4: the vector of the top set bit of the top non-zero word, if ready, is the highest ready one, and else none is: no vector that is
 -- pending is ready. It holds for every TPR class and for every four words of 64 bits.
@@ -100,34 +91,6 @@ pub record RowDecides (i : ℕ) : Type 0 where
 
 abbrev pub TableDecides : Type 0
 TableDecides = (i : ℕ) → i < 25 → RowDecides i
-
--- 02, request 7: the conditions of a host line rise, be it late or not.
-abbrev pub HostRises : Type 0
-HostRises = (late : Bool) (s : State) (p k : ℕ) → rises 1 (host late s p k).refusals ≡ true
-
--- A step, which takes every host line for late, never does one: a run holds none that is taken.
-abbrev pub HostRefused : Type 0
-HostRefused = (s : State) (p : Page) (k : ℕ) → ((x : ℕ) → (step s (Host p k)).answer ≡ Done x → ⊥) × ((step s (Host p k)).next ≡ s)
-
--- An early one that is refused changes nothing; from a well-formed state it leads to one; and one that is done sets the host's mask of its page and
--- no other mask. (That an array of masks has 256 entries holds of all that code lends.)
-abbrev pub HostUnchanged : Type 0
-HostUnchanged = (s : State) (p k : ℕ) (r : Refusal) → (hosted s p k).answer ≡ Refused r → (hosted s p k).next ≡ s
-
-abbrev pub HostKeeps : Type 0
-HostKeeps = (s : State) (p k : ℕ) → well_formed s ≡ true → well_formed (hosted s p k).next ≡ true
-
-pub record HostSet (s : State) (p k : ℕ) (t : State) : Type 0 where
-  pub here : length (partition s).masks ≡ 256 → host_mask_of t p ≡ k
-  pub elsewhere : (q : ℕ) → (q ≡ p → ⊥) → host_mask_of t q ≡ host_mask_of s q
-  pub levels : (l q : ℕ) → mask_of t l q ≡ mask_of s l q
-
-abbrev pub HostSets : Type 0
-HostSets = (s : State) (p k x : ℕ) → (hosted s p k).answer ≡ Done x → HostSet s p k (hosted s p k).next
-
--- The first line's mask is the start value of all.
-abbrev pub HostStarts : Type 0
-HostStarts = (f : FirstLine) (p : ℕ) → admissible f ≡ true → p < f.pages → host_mask_of (fresh f) p ≡ f.host_mask
 
 -- The eight proved cases.
 abbrev pub AllGiven : Type 0

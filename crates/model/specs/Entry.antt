@@ -5,8 +5,7 @@ use Rattle.model.specs.Arrays.{number_at}
 use Rattle.model.specs.Bounded.{least, highest}
 use Rattle.model.specs.Registers.{rip, rax, rcx, private_of, shared_of}
 use Rattle.model.specs.State.{Context, Control, Shape, VirtualProcessor, no_level, context, active_of, enabled_at, is_pending, no_control}
-use Rattle.model.specs.VinaWord.{vina_vector, vina_enabled, vina_entered}
-use Rattle.model.specs.Updates.{with_control, with_vina, with_asserted, set_vina, with_active, with_enabled, with_level, put_context, set_shared, set_private, set_pending, unlocked}
+use Rattle.model.specs.Updates.{with_control, with_active, with_enabled, with_level, put_context, set_shared, set_private, set_pending, unlocked}
 
 -- Reasons: 1 call, 2 interrupt or intercept.
 abbrev pub by_call : ℕ
@@ -15,15 +14,12 @@ by_call = 1
 abbrev pub by_interrupt : ℕ
 by_interrupt = 2
 
--- Entry of a level records reason, the level left, and RAX and RCX as they then stand, and changes no other register. It clears the level's
--- asserted state if its VINA word has auto-reset (02, request 8).
+-- Entry of a level records reason, the level left, and RAX and RCX as they then stand, and changes no other register.
 abbrev pub record_of : VirtualProcessor → ℕ → Control
 record_of p reason = record { reason = reason; from = p.active; rax = shared_of p rax; rcx = shared_of p rcx }
 
 unfoldable pub enter : Shape → VirtualProcessor → ℕ → ℕ → VirtualProcessor
-enter z p l reason =
-    let c = context z p l in
-    with_active (put_context z p l (with_vina (with_control c (record_of p reason)) (vina_entered c.vina))) l
+enter z p l reason = with_active (put_context z p l (with_control (context z p l) (record_of p reason))) l
 
 -- Ready: vector/16 (rounded down) exceeds the level's TPR class; RFLAGS.IF plays no part.
 unfoldable pub is_ready : Context → ℕ → Bool
@@ -84,28 +80,14 @@ returned z p length =
 unfoldable pub enters : Shape → VirtualProcessor → ℕ → ℕ → Bool
 enters z p g n = ltb (active_of p) g && is_ready (context z p g) n
 
--- int (02, request 8): the interrupt comes for a level below the active one, is ready by that level's TPR class, and the active level's VINA is
--- enabled and not asserted.
-unfoldable pub notifies : Shape → VirtualProcessor → ℕ → ℕ → Bool
-notifies z p g n =
-    let a = (context z p (active_of p)).vina in
-    ltb g (active_of p) && is_ready (context z p g) n && vina_enabled a.word && eqb a.asserted 0
-
--- The VINA vector becomes pending at the active level, and the state is asserted.
-unfoldable pub notified : Shape → VirtualProcessor → VirtualProcessor
-notified z p =
-    let l = active_of p in
-    let a = (context z p l).vina in
-    set_vina z (set_pending z p l (vina_vector a.word) 1) l (with_asserted a 1)
-
--- int: the vector is made pending; g is entered, reason 2, or not; then the active level may be told.
+-- int: the vector is made pending; g is entered, reason 2, or not.
 unfoldable pub interrupted : Shape → VirtualProcessor → ℕ → ℕ → VirtualProcessor
 interrupted z p g n =
     let q = set_pending z p g n 1 in
-    cond (enters z p g n) (enter z q g by_interrupt) (cond (notifies z p g n) (notified z q) q)
+    cond (enters z p g n) (enter z q g by_interrupt) q
 
 -- envp: level t is enabled. Sets RIP, RSP and CR0, the other private registers 0, TPR 0, nothing pending, reason 0, entered from 0, its record's
--- RAX and RCX 0. What the level holds of lower levels stays, what it asks to be told of their registers (02, request 6), and its VINA word and state (02, request 8).
+-- RAX and RCX 0. What the level holds of lower levels stays, and what it asks to be told of their registers (02, request 6).
 abbrev pub started_context : Context → ℕ → ℕ → ℕ → Context
 started_context c ip sp cr = record {
   registers = ip ∷ sp ∷ 0 ∷ cr ∷ replicate 9 0;
@@ -114,7 +96,6 @@ started_context c ip sp cr = record {
   secure = c.secure;
   control = no_control;
   watch = c.watch;
-  vina = c.vina;
 }
 
 unfoldable pub started : Shape → VirtualProcessor → ℕ → ℕ → ℕ → ℕ → VirtualProcessor

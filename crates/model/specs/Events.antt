@@ -1,4 +1,4 @@
--- The twenty-four events (01, "Events"; 02, requests 6 to 8): for each its refusals, rising, and its value and effect where none applies.
+-- The twenty-one events (01, "Events"; 02, request 6): for each its refusals, rising, and its value and effect where none applies.
 -- Assumes nothing.
 use Rattle.std.specs.Prelude.{Bool, not, cond, ◌&&◌, ◌||◌, List, [], ◌∷◌, ℕ, leb, ltb, eqb}
 use Rattle.word.specs.Field.{bit}
@@ -9,9 +9,8 @@ use Rattle.model.specs.Entry.{highest_ready, next_up, called, returned, enters, 
 use Rattle.model.specs.Masks.{valid_mask, kernel_only, default_mask, turns_on, reserved_set, secure_reserved_set, protects_in, protects}
 use Rattle.model.specs.Memory.{denied, receiver, host_denies, mbec_on, is_user}
 use Rattle.model.specs.Registers.{cr0, rflags, rcx, protected_bit, interrupt_bit, private_of, shared_of, register_of}
-use Rattle.model.specs.State.{State, Partition, Shape, Access, Mode, Watch, Vina, processors, max_level_of, pages, is_level, shape, vp, context, level, no_level, host_level, active_of, active, enabled_on, enabled_anywhere, enabled_for, mbec_for, config_of, word_of, secure_of, mbec_bit, lock_bit}
-use Rattle.model.specs.Updates.{enable_level, set_config, set_mask, fill_masks, set_register, set_tpr, set_secure, set_watch, with_intercepts, with_cr_mask, set_vina, with_vina_word, with_asserted, set_word, on_vp, on_partition}
-use Rattle.model.specs.VinaWord.{vector_too_low}
+use Rattle.model.specs.State.{State, Partition, Shape, Access, Mode, Watch, processors, max_level_of, pages, is_level, shape, vp, context, level, no_level, active_of, active, enabled_on, enabled_anywhere, enabled_for, mbec_for, config_of, word_of, secure_of, mbec_bit, lock_bit}
+use Rattle.model.specs.Updates.{enable_level, set_config, set_mask, fill_masks, set_register, set_tpr, set_secure, set_watch, with_intercepts, with_cr_mask, set_word, on_vp, on_partition}
 use Rattle.model.specs.Watching.{intercept_reserved_set, asks_read, asks_write, watcher}
 
 -- What an event is refused or intercepted for, and its value and next state where it is done.
@@ -189,25 +188,6 @@ crm s v mode n mask = record {
   effect = watch_effect s v (λ w. with_cr_mask w (eqb n 4) mask);
 }
 
--- vina v mode word: 1 for an enabled word with vector below 16; 4 at level 0. Sets the actor's own word and leaves its state (02, request 8).
-abbrev pub vina_effect : State → ℕ → (Vina → Vina) → State
-vina_effect s v change = on_vp s v (λ z p. set_vina z p (active_of p) (change (context z p (active_of p)).vina))
-
-abbrev pub vina : State → ℕ → Mode → ℕ → Rule
-vina s v mode word = record {
-  refusals = Refusal.VinaVectorTooLow when vector_too_low word ∷ kernel mode (Refusal.VinaAtLevelZero when eqb (active s v) 0 ∷ []);
-  value = 0;
-  effect = vina_effect s v (λ n. with_vina_word n word);
-}
-
--- vclear v mode: 4 at level 0. Clears the actor's asserted state (02, request 8).
-abbrev pub vclear : State → ℕ → Mode → Rule
-vclear s v mode = record {
-  refusals = kernel mode (Refusal.VinaAtLevelZero when eqb (active s v) 0 ∷ []);
-  value = 0;
-  effect = vina_effect s v (λ n. with_asserted n 0);
-}
-
 -- tpr v mode class; sets the actor's own.
 abbrev pub tpr : State → ℕ → Mode → ℕ → Rule
 tpr s v mode class = record {
@@ -232,14 +212,6 @@ int s w g n = record {
       ∷ above_maximum s g ∷ Refusal.NotEnabledOnProcessor when not (enabled_on s w g) ∷ [];
   value = cond (enters (shape s) (vp s w) g n) 1 0;
   effect = on_vp s w (λ z p. interrupted z p g n);
-}
-
--- host p mask, from outside, no mode (02, request 7): 1 for a bad page or an invalid mask; 4 if it comes late, after a line with another word. Sets the host's mask of the page.
-abbrev pub host : Bool → State → ℕ → ℕ → Rule
-host late s p k = record {
-  refusals = Refusal.NoSuchPage when leb (pages s) p ∷ Refusal.InvalidMask when not (valid_mask k) ∷ Refusal.HostLate when late ∷ [];
-  value = 0;
-  effect = on_partition s (λ z x. set_mask x host_level p k);
 }
 
 -- pstat, vstat, caps v mode: the words of 001. Partition status: enabled set at bit 0, M at 16, MBEC set at 20.

@@ -1,8 +1,7 @@
 -- The fresh machine of a first line (01, "The bench model"). Assumes nothing.
 use Rattle.std.specs.Prelude.{Bool, ◌&&◌, leb, eqb, replicate}
 use Rattle.model.specs.Masks.{valid_mask}
-use Rattle.model.specs.State.{State, FirstLine, Partition, VirtualProcessor, LevelSet, level, level_set, host_level, in_range, no_context}
-use Rattle.model.specs.Updates.{fill_masks}
+use Rattle.model.specs.State.{State, FirstLine, Partition, VirtualProcessor, LevelSet, level, level_set, in_range, no_context}
 
 -- Sizes in range, Dr6Shared 0 or 1, a valid host mask, and SMEP 0 or 1 (02, request 1).
 unfoldable pub admissible : FirstLine → Bool
@@ -16,11 +15,11 @@ level_zero_alone = level_set 1
 abbrev pub fresh_vp : VirtualProcessor
 fresh_vp = record { active = level 0; enabled = level_zero_alone; shared = replicate 20 0; contexts = replicate 4 no_context }
 
--- No MBEC, the configuration word 62, page masks 15. The host's masks come with the first line.
+-- No MBEC, the configuration word 62, page masks 15.
 abbrev pub fresh_partition : Partition
 fresh_partition = record { enabled = level_zero_alone; mbec = level_set 0; configs = replicate 4 62; masks = replicate 256 15 }
 
--- The words of all pages 0, and the host's mask of every page that of the first line (02, request 7).
+-- The words of all pages 0, one host mask for all pages.
 unfoldable pub fresh : FirstLine → State
 fresh f = record {
   machine = record {
@@ -28,7 +27,7 @@ fresh f = record {
     pages = f.pages;
     host_mask = f.host_mask;
     shape = record { max_level = f.max_level; dr6_shared = eqb f.dr6_shared 1; smep = eqb f.smep 1 };
-    partition = fill_masks f.pages fresh_partition host_level f.host_mask;
+    partition = fresh_partition;
     vps = replicate 4 fresh_vp;
   };
   words = replicate f.pages 0;

@@ -6,10 +6,10 @@ use Rattle.word.specs.Field.{bit}
 use Rattle.model.specs.Bounded.{any, bits}
 use Rattle.model.specs.Masks.{read_bit, protects}
 use Rattle.model.specs.Registers.{cr0, is_private}
-use Rattle.model.specs.State.{State, Context, Machine, Partition, Shape, VirtualProcessor, LevelSet, level_set, no_control, no_watch, no_vina, no_context, no_vp, processors, active, in_set, is_level, is_processor, is_page, shape, mask_of, host_mask_of}
+use Rattle.model.specs.State.{State, Context, Machine, Partition, Shape, VirtualProcessor, LevelSet, level_set, no_control, no_watch, no_context, no_vp, processors, active, in_set, is_level, is_processor, is_page, shape, mask_of, host_mask_of}
 use Rattle.model.specs.MapAt.{map_at}
 
--- Words of a page where the host's mask of it (02, request 7), or the page's mask of a level from K up with protections on, lacks Read.
+-- Words of a page where the host mask, or the page's mask of a level from K up with protections on, lacks Read.
 unfoldable pub closed : ℕ → State → ℕ → Bool
 closed K s p = not (bit (host_mask_of s p) read_bit) || any 4 (λ t. leb K t && protects s t && not (bit (mask_of s t p) read_bit))
 
@@ -25,7 +25,7 @@ hide_set z x = level_set (bits 4 (λ l. in_set z x l))
 
 -- What a processor holds of level l, enabled or not as `on` tells, with its private registers hidden where h says so: 0, and CR0 1
 -- at an enabled level. No part of a state: DR6 here where it is shared, what the level holds for itself and higher levels, and
--- level 0's control record, its intercept control word with its masks, and its VINA word and state.
+-- level 0's control record and its intercept control word with its masks.
 unfoldable pub hide_context : Shape → Bool → Bool → ℕ → Context → Context
 hide_context z h on l c = record {
   registers = map_at (λ r x. cond (is_private z r) (cond h (cond (eqb r cr0 && on) 1 0) x) 0) c.registers;
@@ -34,7 +34,6 @@ hide_context z h on l c = record {
   secure = map_at (λ j w. cond (ltb j l) w 0) c.secure;
   control = cond (eqb l 0) no_control c.control;
   watch = cond (eqb l 0) no_watch c.watch;
-  vina = cond (eqb l 0) no_vina c.vina;
 }
 
 -- A processor; E tells the levels enabled on some processor at the start. No part of a state: levels above M, and DR6 here where it is private.
@@ -50,9 +49,9 @@ hide_vp K E z p = record {
   contexts = map_at (hide_level K E z p.enabled) p.contexts;
 }
 
--- The mask at place i is that of level i % 4 for page i / 4, or the host's in the place of level 0. All these are compared.
+-- The mask at place i is that of level i % 4 for page i / 4. Level 0 has no masks.
 unfoldable pub is_mask : State → ℕ → Bool
-is_mask s i = is_level (shape s) (i % 4) && is_page s (i / 4)
+is_mask s i = ltb 0 (i % 4) && is_level (shape s) (i % 4) && is_page s (i / 4)
 
 -- What the partition holds. Level 0 has no configuration word.
 unfoldable pub hide_partition : State → Partition → Partition

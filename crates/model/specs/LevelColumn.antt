@@ -3,17 +3,12 @@ use Rattle.std.specs.Prelude.{cond, ℕ, eqb}
 use Rattle.model.specs.declared.quantity.Processor.{Processor}
 use Rattle.model.specs.Answers.{number_of}
 use Rattle.model.specs.State.{active}
-use Rattle.model.specs.Step.{Event, Made, Int, Host, Outcome}
+use Rattle.model.specs.Step.{Event, Made, Int, Outcome}
 
--- A number that is no processor's: its active level is 0.
-abbrev pub no_processor : Processor
-no_processor = record { 0 = 4 }
-
--- The processor that the level column is about: v, or w where no v is named. For a host line it shows level 0 (02, request 7).
+-- The processor that the level column is about: v, or w where no v is named.
 abbrev pub processor_of : Event → Processor
 processor_of (Made v mode a) = v
 processor_of (Int w g vector) = w
-processor_of (Host page mask) = no_processor
 
 -- The level now active on that processor, and 0 for answer 1.
 abbrev pub level_column : Outcome → Processor → ℕ

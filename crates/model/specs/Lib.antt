@@ -7,7 +7,6 @@ pub mod Masks  -- protection masks and configuration words
 pub mod Fresh  -- the fresh machine
 pub mod WellFormed  -- well-formed states
 pub mod Answers  -- answers, their numbers and values
-pub mod VinaWord  -- the VINA word
 pub mod Entry  -- entry, call, return and interrupts on one processor
 pub mod Memory  -- the access decision
 pub mod Watching  -- which accesses to registers a higher level is told of

@@ -1,6 +1,6 @@
 -- The state, and what can be read of it (01, "The bench model"). A reading beyond the processors V, the maximum level M or
 -- the pages P gives the empty record or 0: what lies there is no part of a state. Nor is level 0's control record, its
--- intercept control word with its masks, its VINA word and state, its configuration word or its page masks, or DR6 in the place that Dr6Shared leaves unused. Assumes nothing.
+-- intercept control word with its masks, its configuration word or its page masks, or DR6 in the place that Dr6Shared leaves unused. Assumes nothing.
 use Rattle.std.specs.Prelude.{Bool, cond, ◌&&◌, List, [], ◌∷◌, ℕ, ◌+◌, ◌*◌, ◌/◌, ◌%◌, leb, ltb, get_or, replicate}
 use Rattle.word.specs.Field.{bit}
 pub use Rattle.model.specs.declared.machine.Context.{Context}
@@ -10,7 +10,6 @@ pub use Rattle.model.specs.declared.machine.Partition.{Partition}
 pub use Rattle.model.specs.declared.machine.Shape.{Shape}
 pub use Rattle.model.specs.declared.machine.VirtualProcessor.{VirtualProcessor}
 pub use Rattle.model.specs.declared.machine.Watch.{Watch}
-pub use Rattle.model.specs.declared.machine.Vina.{Vina}
 pub use Rattle.model.specs.declared.quantity.Level.{Level}
 pub use Rattle.model.specs.declared.set.LevelSet.{LevelSet}
 pub use Rattle.model.specs.declared.quantity.Mode.{Mode}
@@ -67,11 +66,8 @@ no_control = record { reason = 0; from = level 0; rax = 0; rcx = 0 }
 abbrev pub no_watch : Watch
 no_watch = record { intercepts = 0; cr0_mask = 0; cr4_mask = 0 }
 
-abbrev pub no_vina : Vina
-no_vina = record { word = 0; asserted = 0 }
-
 abbrev pub no_context : Context
-no_context = record { registers = replicate 13 0; tpr = 0; pending = replicate 4 0; secure = replicate 4 0; control = no_control; watch = no_watch; vina = no_vina }
+no_context = record { registers = replicate 13 0; tpr = 0; pending = replicate 4 0; secure = replicate 4 0; control = no_control; watch = no_watch }
 
 abbrev pub no_vp : VirtualProcessor
 no_vp = record { active = level 0; enabled = level_set 0; shared = replicate 20 0; contexts = replicate 4 no_context }
@@ -79,7 +75,7 @@ no_vp = record { active = level 0; enabled = level_set 0; shared = replicate 20 
 -- What a list of records gives past its end. No reading goes there: a machine has room for four processors, four levels
 -- and 64 pages, and a search goes through that room.
 abbrev pub past_context : Context
-past_context = record { registers = []; tpr = 0; pending = []; secure = []; control = no_control; watch = no_watch; vina = no_vina }
+past_context = record { registers = []; tpr = 0; pending = []; secure = []; control = no_control; watch = no_watch }
 
 abbrev pub past_vp : VirtualProcessor
 past_vp = record { active = level 0; enabled = level_set 0; shared = []; contexts = [] }
@@ -152,15 +148,9 @@ mask_in z P masks l p = cond (ltb 0 l && is_level z l && (ltb p P && ltb p 64)) 
 unfoldable pub mask_of : State → ℕ → ℕ → ℕ
 mask_of s l p = mask_in (shape s) (pages s) (partition s).masks l p
 
--- The host's mask of page p (02, request 7) stands with the masks of the levels, in the place of level 0, which has none.
-abbrev pub host_level : ℕ
-host_level = 0
-
-unfoldable pub host_in : ℕ → List ℕ → ℕ → ℕ
-host_in P masks p = cond (ltb p P && ltb p 64) (number_at 256 masks (4 * p + host_level)) 0
-
+-- The host's mask of page p: one mask for all pages.
 unfoldable pub host_mask_of : State → ℕ → ℕ
-host_mask_of s p = host_in (pages s) (partition s).masks p
+host_mask_of s p = s.machine.host_mask
 
 -- The word of page p.
 unfoldable pub word_of : State → ℕ → ℕ

@@ -1,13 +1,13 @@
 -- One step, and a run over a list of events. Assumes nothing.
-use Rattle.std.specs.Prelude.{true, false, cond, List, [], ◌∷◌, ℕ, leb, ltb, eqb}
+use Rattle.std.specs.Prelude.{cond, List, [], ◌∷◌, ℕ, leb, ltb, eqb}
 use Rattle.std.proofs.Math.Option.{Option, none, some}
 pub use Rattle.model.specs.declared.event.Action.{Action}
-pub use Rattle.model.specs.declared.event.Action.TheVariants.{Enpart, Envp, Call, Ret, Read, Write, Fetch, Protect, Config, Secure, Flush, Rreg, Wreg, Tpr, Ack, Pstat, Vstat, Caps, Cri, Crm, Vina, Vclear}
+pub use Rattle.model.specs.declared.event.Action.TheVariants.{Enpart, Envp, Call, Ret, Read, Write, Fetch, Protect, Config, Secure, Flush, Rreg, Wreg, Tpr, Ack, Pstat, Vstat, Caps, Cri, Crm}
 pub use Rattle.model.specs.declared.event.Event.{Event}
-pub use Rattle.model.specs.declared.event.Event.TheVariants.{Made, Int, Host}
+pub use Rattle.model.specs.declared.event.Event.TheVariants.{Made, Int}
 use Rattle.model.specs.Answers.{Answer, Done, Refused, Intercept, Refusal, ◌when◌, first_of}
 use Rattle.model.specs.Entry.{enter, by_interrupt}
-use Rattle.model.specs.Events.{Rule, enpart, envp, call, ret, read, write, fetch, protect, config, secure, flush, rreg, wreg, tpr, ack, int, host, pstat, vstat, caps, cri, crm, vina, vclear}
+use Rattle.model.specs.Events.{Rule, enpart, envp, call, ret, read, write, fetch, protect, config, secure, flush, rreg, wreg, tpr, ack, int, pstat, vstat, caps, cri, crm}
 use Rattle.model.specs.State.{State, Mode, processors}
 use Rattle.model.specs.Updates.{on_vp}
 use Rattle.model.specs.WellFormed.{well_formed}
@@ -34,8 +34,6 @@ rule_of s v mode Vstat = vstat s v mode
 rule_of s v mode Caps = caps s v mode
 rule_of s v mode (Cri word) = cri s v mode word
 rule_of s v mode (Crm n mask) = crm s v mode n mask
-rule_of s v mode (Vina word) = vina s v mode word
-rule_of s v mode Vclear = vclear s v mode
 
 -- Mode 0 is kernel, 1 user.
 abbrev pub mode_of : ℕ → Mode
@@ -49,14 +47,11 @@ rule s (Made v mode a) = let r = rule_of s v.0 (mode_of mode) a in record {
   effect = r.effect;
 }
 rule s (Int w g n) = int s w.0 g.0 n
--- Only a script knows that a host line comes early enough: for a step it is late (02, request 7).
-rule s (Host p k) = host true s p.0 k
 
 -- An event's maker is its v; an event without v has none.
 unfoldable pub maker : Event → Option ℕ
 maker (Made v mode a) = some v.0
 maker (Int w g n) = none
-maker (Host p k) = none
 
 -- At 9 the processor enters the receiver, reason 2, and nothing else changes.
 unfoldable pub intercepted : State → Option ℕ → ℕ → State
@@ -91,10 +86,6 @@ acted s v mode a = outcome s (some v) (rule_of s v mode a)
 -- One event: a state that is not well formed gets answer 1.
 unfoldable pub step : State → Event → Outcome
 step s e = cond (well_formed s) (ruled s e) (record { answer = Refused Refusal.NotWellFormed; next = s })
-
--- A host line of a script that comes early: no line after the first has had another word (02, request 7).
-unfoldable pub hosted : State → ℕ → ℕ → Outcome
-hosted s p k = cond (well_formed s) (outcome s none (host false s p k)) (record { answer = Refused Refusal.NotWellFormed; next = s })
 
 -- A run: each event gets the state and page words that the last one left.
 unfoldable pub answers : State → List Event → List Answer

@@ -4,29 +4,26 @@ use Rattle.std.specs.Prelude.{Bool, true, cond, List, ℕ, zero, suc, ◌+◌, �
 use Rattle.word.specs.Field.{put}
 use Rattle.model.specs.Arrays.{number_at, stored}
 use Rattle.model.specs.Registers.{dr6, is_private}
-use Rattle.model.specs.State.{State, Context, Control, Machine, Partition, Shape, VirtualProcessor, LevelSet, Watch, Vina, level, level_set, shape, pages, partition, is_level, vp, context, lock_bit}
+use Rattle.model.specs.State.{State, Context, Control, Machine, Partition, Shape, VirtualProcessor, LevelSet, Watch, level, level_set, shape, pages, partition, is_level, vp, context, lock_bit}
 
 -- A context with one field changed.
 abbrev pub with_registers : Context → List ℕ → Context
-with_registers c rs = record { registers = rs; tpr = c.tpr; pending = c.pending; secure = c.secure; control = c.control; watch = c.watch; vina = c.vina }
+with_registers c rs = record { registers = rs; tpr = c.tpr; pending = c.pending; secure = c.secure; control = c.control; watch = c.watch }
 
 abbrev pub with_tpr : Context → ℕ → Context
-with_tpr c class = record { registers = c.registers; tpr = class; pending = c.pending; secure = c.secure; control = c.control; watch = c.watch; vina = c.vina }
+with_tpr c class = record { registers = c.registers; tpr = class; pending = c.pending; secure = c.secure; control = c.control; watch = c.watch }
 
 abbrev pub with_pending : Context → List ℕ → Context
-with_pending c ps = record { registers = c.registers; tpr = c.tpr; pending = ps; secure = c.secure; control = c.control; watch = c.watch; vina = c.vina }
+with_pending c ps = record { registers = c.registers; tpr = c.tpr; pending = ps; secure = c.secure; control = c.control; watch = c.watch }
 
 abbrev pub with_secure : Context → List ℕ → Context
-with_secure c ws = record { registers = c.registers; tpr = c.tpr; pending = c.pending; secure = ws; control = c.control; watch = c.watch; vina = c.vina }
+with_secure c ws = record { registers = c.registers; tpr = c.tpr; pending = c.pending; secure = ws; control = c.control; watch = c.watch }
 
 abbrev pub with_control : Context → Control → Context
-with_control c k = record { registers = c.registers; tpr = c.tpr; pending = c.pending; secure = c.secure; control = k; watch = c.watch; vina = c.vina }
+with_control c k = record { registers = c.registers; tpr = c.tpr; pending = c.pending; secure = c.secure; control = k; watch = c.watch }
 
 abbrev pub with_watch : Context → Watch → Context
-with_watch c w = record { registers = c.registers; tpr = c.tpr; pending = c.pending; secure = c.secure; control = c.control; watch = w; vina = c.vina }
-
-abbrev pub with_vina : Context → Vina → Context
-with_vina c n = record { registers = c.registers; tpr = c.tpr; pending = c.pending; secure = c.secure; control = c.control; watch = c.watch; vina = n }
+with_watch c w = record { registers = c.registers; tpr = c.tpr; pending = c.pending; secure = c.secure; control = c.control; watch = w }
 
 -- What a level asks to be told of registers, with another intercept control word, or another mask for writes of CR4 where `four` says so, and
 -- else of CR0.
@@ -35,13 +32,6 @@ with_intercepts w word = record { intercepts = word; cr0_mask = w.cr0_mask; cr4_
 
 abbrev pub with_cr_mask : Watch → Bool → ℕ → Watch
 with_cr_mask w four mask = record { intercepts = w.intercepts; cr0_mask = cond four w.cr0_mask mask; cr4_mask = cond four mask w.cr4_mask }
-
--- A VINA word with its state, with another word or another state.
-abbrev pub with_vina_word : Vina → ℕ → Vina
-with_vina_word n word = record { word = word; asserted = n.asserted }
-
-abbrev pub with_asserted : Vina → ℕ → Vina
-with_asserted n x = record { word = n.word; asserted = x }
 
 -- A processor with one field changed.
 abbrev pub with_active : VirtualProcessor → ℕ → VirtualProcessor
@@ -96,10 +86,6 @@ set_secure z p t l w = let c = context z p t in put_context z p t (with_secure c
 -- What level l asks to be told of registers.
 unfoldable pub set_watch : Shape → VirtualProcessor → ℕ → Watch → VirtualProcessor
 set_watch z p l w = put_context z p l (with_watch (context z p l) w)
-
--- Level l's VINA word and state.
-unfoldable pub set_vina : Shape → VirtualProcessor → ℕ → Vina → VirtualProcessor
-set_vina z p l n = put_context z p l (with_vina (context z p l) n)
 
 -- Level t's TLB locks are cleared, in the first n of its words and in all.
 unfoldable pub cleared : ℕ → List ℕ → List ℕ

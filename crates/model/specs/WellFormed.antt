@@ -5,9 +5,8 @@ use Rattle.model.specs.Arrays.{number_at}
 use Rattle.model.specs.Bounded.{every, all_of}
 use Rattle.model.specs.Masks.{valid_mask, kernel_only, default_mask, turns_on, reserved_set, secure_reserved_set}
 use Rattle.model.specs.Registers.{cr0, protected_bit, private_of}
-use Rattle.model.specs.VinaWord.{vector_too_low}
 use Rattle.model.specs.Watching.{intercept_reserved_set}
-use Rattle.model.specs.State.{State, Context, Control, Partition, Shape, VirtualProcessor, Vina, in_range, processors, max_level_of, pages, partition, in_set, is_processor, shape, vp, context, active_of, enabled_at, enabled_for, mbec_for, config_of, mask_of, host_mask_of, mbec_bit}
+use Rattle.model.specs.State.{State, Context, Control, Partition, Shape, VirtualProcessor, in_range, processors, max_level_of, pages, partition, in_set, is_processor, shape, vp, context, active_of, enabled_at, enabled_for, mbec_for, config_of, mask_of, mbec_bit}
 
 -- If a then b.
 infix 20 ◌implies◌
@@ -32,15 +31,11 @@ well_entered l from_on k = all_of (
 unfoldable pub never_entered : Control → Bool
 never_entered k = all_of (eqb k.reason 0 ∷ eqb k.from.0 0 ∷ eqb k.rax 0 ∷ eqb k.rcx 0 ∷ [])
 
--- No enabled VINA word with vector below 16; the state is asserted or not (02, request 8).
-unfoldable pub well_formed_vina : Vina → Bool
-well_formed_vina n = not (vector_too_low n.word) && leb n.asserted 1
-
 -- What a processor holds of level l, where the partition has the level enabled as `on` tells, the processor as `enabled` does,
 -- and the partition has MBEC for it as `mbec` tells. A processor's enabled levels are within the partition's; its MBEC only
 -- where the partition has it for the setting level. TPR in range; pending vectors only 16..255 (0..15 are the low 16 bits of
 -- the first word) and only at enabled levels. A level above 0 that is not enabled was never entered. Bits
--- 25..63 of the intercept control word of a level above 0 are 0 (02, request 6), and its VINA word and state are well formed (02, request 8).
+-- 25..63 of the intercept control word of a level above 0 are 0 (02, request 6).
 unfoldable pub well_formed_context : ℕ → Bool → Bool → Bool → Bool → Context → Bool
 well_formed_context l on enabled mbec from_on c = all_of (
     (enabled implies on)
@@ -51,7 +46,6 @@ well_formed_context l on enabled mbec from_on c = all_of (
     ∷ (enabled || every 4 (λ i. eqb (number_at 4 c.pending i) 0))
     ∷ ((ltb 0 l && not enabled) implies never_entered c.control)
     ∷ (ltb 0 l implies not (intercept_reserved_set c.watch.intercepts))
-    ∷ (ltb 0 l implies well_formed_vina c.vina)
     ∷ [])
 
 -- A processor, where the partition holds x: level 0 is enabled everywhere; the active level is enabled. (That an array of four
@@ -81,15 +75,13 @@ well_formed_level_by mask word enabled mbec = all_of (
 unfoldable pub well_formed_level : State → ℕ → Bool
 well_formed_level s l = well_formed_level_by (mask_of s l) (config_of s l) (enabled_for s l) (mbec_for s l)
 
--- All that reads no private register: each processor and each level above 0, the first line's mask, no MBEC for level 0, and the host's mask
--- of each page (02, request 7).
+-- All that reads no private register: each processor and each level above 0, the host's mask, and no MBEC for level 0.
 unfoldable pub well_formed_parts : State → Bool
 well_formed_parts s = all_of (
     every 4 (λ v. is_processor s v implies well_formed_vp (shape s) (partition s) (vp s v))
     ∷ every 3 (λ i. well_formed_level s (suc i))
     ∷ valid_mask s.machine.host_mask
     ∷ not (mbec_for s 0)
-    ∷ every 64 (λ p. valid_mask (host_mask_of s p))
     ∷ [])
 
 -- An enabled level above 0 has CR0 bit 0 set: no real mode there.

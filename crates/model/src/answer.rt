@@ -52,8 +52,6 @@ pub enum Refusal {
     Cr0InRealMode,
     // crm: a mask for neither CR0 nor CR4
     NoSuchMask,
-    // vina: an enabled word with a vector below 16
-    VinaVectorTooLow,
     // user mode for anything but read, write, fetch
     UserMode,
     // call: the actor is in real mode, its CR0 bit 0 is clear
@@ -82,10 +80,6 @@ pub enum Refusal {
     ProtectAtLevelZero,
     // cri, crm: level 0 is active
     WatchAtLevelZero,
-    // vina, vclear: level 0 is active
-    VinaAtLevelZero,
-    // host: a line after the first has had another word
-    HostLate,
     // enpart: the target is enabled for the partition
     EnabledForPartition,
     // envp: the target is enabled on the processor

@@ -1,4 +1,4 @@
-// The twenty-four events. One that a level makes has the processor on which that level is active, the mode (0 kernel, 1 user) and
+// The twenty-one events. One that a level makes has the processor on which that level is active, the mode (0 kernel, 1 user) and
 // what the level does; one from outside has only what happens. A field holds the number as it was given: a number out of range
 // is refused by the event's rule.
 use crate::quantity::{Level, Page, Processor};
@@ -15,11 +15,6 @@ pub enum Event {
         on: Processor,
         target: Level,
         vector: u64,
-    },
-    // From outside: the host's mask of a page (02, request 7).
-    Host {
-        page: Page,
-        mask: u64,
     },
 }
 
@@ -89,9 +84,4 @@ pub enum Action {
         control_register: u64,
         mask: u64,
     },
-    // The actor's own VINA word, and its asserted state cleared (02, request 8).
-    Vina {
-        word: u64,
-    },
-    Vclear,
 }

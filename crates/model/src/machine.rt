@@ -30,7 +30,6 @@ pub struct Shape {
 pub struct Setup {
     pub processors: u64,
     pub pages: u64,
-    // The first line's: the host's mask of each page stands with the levels' masks.
     pub host_mask: u64,
     pub shape: Shape,
 }
@@ -58,14 +57,6 @@ pub struct Watch {
     pub cr4_mask: u64,
 }
 
-// How a level above 0 is told that an interrupt waits for a lower level (02, request 8): 001's VINA word, and whether the state is
-// asserted, 0 or 1.
-#[derive(Drop)]
-pub struct Vina {
-    pub word: u64,
-    pub asserted: u64,
-}
-
 // What a processor holds of one level.
 #[derive(Drop)]
 pub struct Context {
@@ -78,7 +69,6 @@ pub struct Context {
     pub secure: [u64; 4],
     pub control: Control,
     pub watch: Watch,
-    pub vina: Vina,
 }
 
 #[derive(Drop)]
@@ -99,8 +89,7 @@ pub struct Partition {
     pub mbec: LevelSet,
     // The configuration word of each level. Level 0 has none.
     pub configs: [u64; 4],
-    // The protection mask of level l for page p stands at 4 p + l. Level 0 has none: the host's mask of the page stands in its place
-    // (02, request 7).
+    // The protection mask of level l for page p stands at 4 p + l.
     pub masks: [u64; 256],
 }
 
@@ -108,7 +97,6 @@ pub struct Partition {
 pub struct Machine {
     pub processors: u64,
     pub pages: u64,
-    // The first line's, with which the host's mask of every page begins.
     pub host_mask: u64,
     pub shape: Shape,
     pub partition: Partition,

@@ -1,6 +1,5 @@
 -- The laws that the proofs of `partition` and of the crates above it cite.
 pub mod MaskPlaces  -- masks and stores, case by case
-pub mod PassingMasks  -- the masks that pass, as the bits of a number
 pub mod PartitionWords  -- the words of the levels
 pub mod DenyingLevels  -- the set of the denying levels, of a state
 pub mod Counted  -- loops that count up to a bound

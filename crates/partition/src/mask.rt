@@ -1,10 +1,9 @@
 // Protection masks (01, "The bench model"): a mask has Read 1, Write 2, KMX 4, UMX 8. The mask of level l for page p stands at
-// 4 p + l of the array that is lent, with the host's mask of the page (02, request 7) in the place of level 0. Level 0, a level above the maximum
-// and a page that there is not have the mask 0.
+// 4 p + l of the array that is lent. Level 0, a level above the maximum and a page that there is not have the mask 0.
 ghost use Rattle.std.specs.Prelude.{◌≡◌, cond, ltb, ◌+◌, ◌*◌};
 ghost use Rattle.model.specs.Arrays.{stored};
 ghost use Rattle.model.specs.Masks.{valid_mask, kernel_only};
-ghost use Rattle.model.specs.State.{mask_in, host_level, host_in};
+ghost use Rattle.model.specs.State.{mask_in};
 ghost use Rattle.model.specs.Updates.{filled};
 
 use model::machine::Shape;
@@ -24,9 +23,6 @@ pub const UMX_BIT: u32 = 3;
 
 // The mask with every right.
 pub const ALL_RIGHTS: u64 = 15;
-
-// The host's masks stand in the place of this level, which has none.
-const HOST_LEVEL: u64 = 0;
 
 // Is a mask valid? It is 0 or has Read.
 pub fn valid_mask(mask: u64) -> bool
@@ -67,19 +63,6 @@ pub fn mask_at(shape: Shape, pages: u64, masks: &Masks, level: Level, page: Page
     }
 }
 
-// The host's mask of a page, where there are `pages` pages.
-pub fn host_mask_at(pages: u64, masks: &Masks, page: Page) -> u64
-    ensures { result ≡ host_in pages masks.now page.0 }
-{
-    let index = page.0;
-    if index >= 64 {
-        return 0;
-    }
-    let i = (4 * index + HOST_LEVEL) as usize;
-    let mask = masks[i];
-    if index < pages { mask } else { 0 }
-}
-
 // Sets a level's mask of a page. An index past the array's end changes nothing.
 pub fn set_mask(masks: &mut Masks, level: Level, page: Page, mask: u64)
     ensures { masks.new ≡ stored 256 masks.old (4 * page.0 + level.0) mask }
@@ -118,18 +101,4 @@ pub fn fill_masks(masks: &mut Masks, pages: u64, level: Level, mask: u64)
         set_page_mask(masks, pages, level, Page(index), mask);
         index += 1;
     }
-}
-
-// Sets the host's mask of a page.
-pub fn set_host_mask(masks: &mut Masks, page: Page, mask: u64)
-    ensures { masks.new ≡ stored 256 masks.old (4 * page.0 + host_level) mask }
-{
-    set_mask(masks, Level(HOST_LEVEL), page, mask);
-}
-
-// Gives each of the `pages` pages the host's mask `mask`.
-pub fn fill_host_masks(masks: &mut Masks, pages: u64, mask: u64)
-    ensures { masks.new ≡ filled 64 pages host_level mask masks.old }
-{
-    fill_masks(masks, pages, Level(HOST_LEVEL), mask);
 }

@@ -1,14 +1,14 @@
 -- A run from the state that was read back goes as one from the state that was saved: they differ in what is no part of a state, and a step
 -- commutes with hiding. Assumes nothing.
 use mathlib.Core.Path.{◌≡◌, refl}
-use mathlib.Core.Bool.{Bool, true, false, cond, ◌&&◌, ◌||◌, false≢true}
-use mathlib.Core.List.{List, [], ◌∷◌, ◌++◌}
+use mathlib.Core.Bool.{Bool, true, false, ◌||◌, false≢true}
+use mathlib.Core.List.{List, [], ◌∷◌}
 use Prim.Native.Nat.{ℕ}
 use native.Mathlib.Omega.{arith}
 use lib.Dec.{leb, ltb}
 use borrow.Author.Tests.{lt-ltb}
 use Rattle.model.specs.declared.event.Event.{Event}
-use Rattle.model.specs.declared.event.Event.TheVariants.{Made, Int, Host}
+use Rattle.model.specs.declared.event.Event.TheVariants.{Made, Int}
 use Rattle.model.specs.Hide.{quiet_maker}
 use Rattle.model.specs.State.{State, active, processors}
 use Rattle.model.specs.Step.{maker, step}
@@ -18,73 +18,28 @@ use Rattle.model.proofs.Four.{level-low}
 use Rattle.model.proofs.Keeps.{step_keeps}
 use Rattle.model.proofs.Steps.{step-hide, hide_outcome}
 use Rattle.model.proofs.Whole.{active-hide}
-use Rattle.listing.specs.Listing.{Answered, answered, early_answered, early_records, later_records, number_after, record_of, starts_with_host}
+use Rattle.listing.specs.Listing.{answered, later_records}
 use Rattle.model.specs.LevelColumn.{processor_of}
 use Rattle.records.specs.Values.{plain}
 use Rattle.records.proofs.SameBytes.{read_back}
 use Rattle.script.specs.Records.{lines}
-use Rattle.script.specs.EventForms.{is_host_line, line_event}
+use Rattle.script.specs.EventForms.{line_event}
 use Rattle.script.specs.declared.Parsed.{Parsed}
 use Rattle.script.specs.declared.Parsed.TheVariants as parsed
-use Rattle.passing.specs.Passing.{early_state, later_state, resumed}
-use Rattle.passing.specs.PassingClaims.{EarlyNumbered, InTwoParts, Numbered, Passing, Told, TwoParts, all_host, early_told, numbered, told, told_by}
+use Rattle.passing.specs.Passing.{later_state, resumed}
+use Rattle.passing.specs.PassingClaims.{Numbered, Passing, TwoParts, numbered, told, told_by}
 
 pub numbered-records : Numbered
 unfolding later_records numbered told
 numbered-records number s [] = refl
 numbered-records number s (line ∷ more) = rw (numbered-records _ _ more)
 
-pub early-numbered : EarlyNumbered
-unfolding early_records numbered early_told
-early-numbered number s [] = refl
-early-numbered number s (line ∷ more) = go (is_host_line line) (early-numbered (number_after number) (early_answered s (line_event line)).next more)
-  where
-    a : Answered
-    a = early_answered s (line_event line)
-
-    go : (b : Bool) → early_records (number_after number) a.next more ≡ numbered (number_after number) (early_told a.next more)
-        → cond b (record_of number a ++ early_records (number_after number) a.next more) (later_records number s (line ∷ more))
-        ≡ numbered number (cond b (told_by a ∷ early_told a.next more) (told s (line ∷ more)))
-    go true ih = rw ih
-    go false ih = numbered-records number s (line ∷ more)
-
--- Later lines in two parts.
-record LateParts (s : State) (one two : List (List ℕ)) : Type 0 where
-  records : told s (one ++ two) ≡ told s one ++ told (later_state s one) two
-  state : later_state s (one ++ two) ≡ later_state (later_state s one) two
-
-late-parts : (s : State) (one two : List (List ℕ)) → LateParts s one two
+pub two-parts : (s : State) (one two : List (List ℕ)) → TwoParts s one two
 unfolding told later_state
-late-parts s [] two = record { records = refl; state = refl }
-late-parts s (line ∷ one) two =
-    let r = late-parts (answered s (line_event line)).next one two in
+two-parts s [] two = record { records = refl; state = refl }
+two-parts s (line ∷ one) two =
+    let r = two-parts (answered s (line_event line)).next one two in
     record { records = rw r.records; state = r.state }
-
--- Lines of which the first is no host line.
-late-told : (s : State) (lines : List (List ℕ)) → starts_with_host lines ≡ false → early_told s lines ≡ told s lines
-unfolding early_told told
-late-told s [] h = refl
-late-told s (line ∷ more) h = rw h
-
-late-state : (s : State) (lines : List (List ℕ)) → starts_with_host lines ≡ false → early_state s lines ≡ later_state s lines
-unfolding early_state later_state
-late-state s [] h = refl
-late-state s (line ∷ more) h = rw h
-
-pub two-parts : InTwoParts
-unfolding early_told early_state all_host
-two-parts s [] two h = record { records = late-told s two h; state = late-state s two h }
-two-parts s (line ∷ one) two h = let r = go (is_host_line line) h (λ k. two-parts (early_answered s (line_event line)).next one two k) in record { records = r.0; state = r.1 }
-  where
-    a : Answered
-    a = early_answered s (line_event line)
-
-    go : (b : Bool) → (b && all_host one && starts_with_host two) ≡ false → ((all_host one && starts_with_host two) ≡ false → TwoParts a.next one two)
-        → (cond b (told_by a ∷ early_told a.next (one ++ two)) (told s (line ∷ one ++ two))
-        ≡ cond b (told_by a ∷ early_told a.next one) (told s (line ∷ one)) ++ told (cond b (early_state a.next one) (later_state s (line ∷ one))) two)
-        × (cond b (early_state a.next (one ++ two)) (later_state s (line ∷ one ++ two)) ≡ later_state (cond b (early_state a.next one) (later_state s (line ∷ one))) two)
-    go true h ih = let r = ih h in (rw r.records, r.state)
-    go false h ih = let r = late-parts s (line ∷ one) two in (r.records, r.state)
 
 -- No level is active from 4 up.
 quiet-maker : (s : State) (e : Event) → well_formed s ≡ true → quiet_maker 4 s (maker e) ≡ true
@@ -95,7 +50,6 @@ quiet-maker s (Made v mode a) w = go (leb (processors s) v.0) refl
     go true e = refl
     go false e = lt-ltb _ 4 (level-low _ _ (active-level s w v.0 (is-processor s w v.0 e)))
 quiet-maker s (Int u g n) w = refl
-quiet-maker s (Host p k) w = refl
 
 -- One step, from the state and from what is part of it.
 plain_step : (s : State) (e : Event) → well_formed s ≡ true → step (plain s) e ≡ hide_outcome 4 (λ l. false) (λ p. false) (step s e)

@@ -12,16 +12,15 @@ use lib.Seq.{length-sets, length-take-le, sets}
 use Rattle.decimal.proofs.TextRoom.{after-room, with-room}
 use Rattle.decimal.specs.Write.{after_text, with_text}
 use Rattle.model.proofs.FreshFormed.{fresh-well-formed}
-use Rattle.model.proofs.HostLines.{host-keeps}
 use Rattle.model.proofs.Keeps.{step_keeps}
 use Rattle.model.specs.Fresh.{admissible, fresh}
 use Rattle.model.specs.State.{State}
 use Rattle.model.specs.WellFormed.{well_formed}
-use Rattle.listing.specs.Listing.{answered, early_answered, first_refused, number_after, state_by}
+use Rattle.listing.specs.Listing.{answered, first_refused, number_after, state_by}
 use Rattle.records.proofs.Lengths.{short-text}
 use Rattle.records.specs.RecordTexts.{longest_text, records_text}
 use Rattle.script.proofs.Cells.{line-at-most}
-use Rattle.script.specs.EventForms.{Host, Int, Made, is_host_line, line_event}
+use Rattle.script.specs.EventForms.{line_event}
 use Rattle.script.specs.First.{line_first}
 use Rattle.script.specs.Bytes.{same}
 use Rattle.script.specs.LineForms.{among, fields, numbers_in, said}
@@ -32,10 +31,10 @@ use Rattle.script.specs.declared.Parsed.TheVariants as parsed
 use Rattle.script.specs.declared.Start.{Start}
 use Rattle.script.specs.declared.Start.TheVariants as start
 use Rattle.session.proofs.Ending.{ended-kept}
-use Rattle.session.proofs.WholeListing.{last-bytes, last-early, last-kept}
-use Rattle.session.specs.Session.{Bounds, Ended, begun, consumed, consumed_lines, continued, continued_early, early, ended, first, last_ended, later, stopped}
+use Rattle.session.proofs.WholeListing.{last-bytes, last-kept}
+use Rattle.session.specs.Session.{Bounds, Ended, begun, consumed, consumed_lines, ended, first, last_ended, later, stopped}
 use Rattle.transfer.specs.Sent.{sent_text}
-use Rattle.passing.specs.Passing.{early_state, later_state, saved, saved_from, saved_of}
+use Rattle.passing.specs.Passing.{later_state, saved, saved_from, saved_of}
 use Rattle.passing.specs.PassingSessions.{SavedSession, saved_text}
 
 -- The text that is sent of a state has room in a buffer of 64 KB.
@@ -77,21 +76,6 @@ unfolding later_state
 later-keeps s [] w = w
 later-keeps s (line ∷ ls) w = later-keeps (answered s (line_event line)).next ls (line-keeps s (line_event line) w)
 
-early-line-keeps : (s : State) (said : Parsed) → well_formed s ≡ true → well_formed (early_answered s said).next ≡ true
-early-line-keeps s (parsed.Malformed refusal) w = w
-early-line-keeps s (parsed.Event (Host p k)) w = host-keeps s p.0 k w
-early-line-keeps s (parsed.Event (Made v mode a)) w = step_keeps s (Made v mode a) w
-early-line-keeps s (parsed.Event (Int u g n)) w = step_keeps s (Int u g n) w
-
-early-keeps : (s : State) (ls : List (List ℕ)) → well_formed s ≡ true → well_formed (early_state s ls) ≡ true
-unfolding early_state
-early-keeps s [] w = w
-early-keeps s (line ∷ ls) w = go (is_host_line line) (early-keeps (early_answered s (line_event line)).next ls (early-line-keeps s (line_event line) w))
-  where
-    go : (b : Bool) → well_formed (early_state (early_answered s (line_event line)).next ls) ≡ true → well_formed (cond b (early_state (early_answered s (line_event line)).next ls) (later_state s (line ∷ ls))) ≡ true
-    go true ih = ih
-    go false ih = later-keeps s (line ∷ ls) w
-
 -- What a session is in, once all lines have ended: the state after them.
 after-later : (ls : List (List ℕ)) (rest : List ℕ) (number : ℕ) (s : State)
     → saved_text (last_ended (consumed_lines (later number s []) ls rest).progress).progress ≡ sent_text (later_state s (ls ++ last_line rest))
@@ -100,33 +84,6 @@ after-later [] [] number s = refl
 after-later [] (byte ∷ rest) number s =
     ap (λ (e : Ended). saved_text e.progress) (last-kept (later number s (byte ∷ rest)) ∙ last-bytes number s byte rest)
 after-later (line ∷ ls) rest number s = after-later ls rest (number_after number) (answered s (line_event line)).next
-
-after-early : (ls : List (List ℕ)) (rest : List ℕ) (number : ℕ) (s : State)
-    → saved_text (last_ended (consumed_lines (early number s []) ls rest).progress).progress ≡ sent_text (early_state s (ls ++ last_line rest))
-unfolding consumed_lines later_state early_state ended
-after-early [] [] number s = refl
-after-early [] (byte ∷ rest) number s =
-    ap (λ (e : Ended). saved_text e.progress) (last-kept (early number s (byte ∷ rest)) ∙ last-early number s byte rest) ∙ go (is_host_line (byte ∷ rest))
-  where
-    said : Parsed
-    said = line_event (byte ∷ rest)
-
-    go : (b : Bool) → saved_text (cond b (continued_early number (early_answered s said)) (continued number (answered s said))).progress
-        ≡ sent_text (cond b (early_answered s said).next (answered s said).next)
-    go true = refl
-    go false = refl
-after-early (line ∷ ls) rest number s = go (is_host_line line) (after-early ls rest (number_after number) (early_answered s (line_event line)).next)
-  where
-    said : Parsed
-    said = line_event line
-
-    go : (b : Bool)
-        → saved_text (last_ended (consumed_lines (early (number_after number) (early_answered s said).next []) ls rest).progress).progress ≡ sent_text (early_state (early_answered s said).next (ls ++ last_line rest))
-        → let e = cond b (continued_early number (early_answered s said)) (continued number (answered s said)) in
-        saved_text (last_ended (consumed_lines e.progress ls rest).progress).progress
-        ≡ sent_text (cond b (early_state (early_answered s said).next (ls ++ last_line rest)) (later_state s (line ∷ ls ++ last_line rest)))
-    go true ih = ih
-    go false ih = after-later ls rest (number_after number) (answered s said).next
 
 after-stopped : (ls : List (List ℕ)) (rest : List ℕ) → saved_text (last_ended (consumed_lines stopped ls rest).progress).progress ≡ first_refused
 unfolding consumed_lines ended
@@ -149,11 +106,11 @@ sent-records s w = rw w
 from_first : (o : Option State) → ((s : State) → o ≡ some s → well_formed s ≡ true) → (ls : List (List ℕ)) (rest : List ℕ)
     → saved_text (last_ended (consumed_lines (begun o).progress ls rest).progress).progress ≡ saved_from o (ls ++ last_line rest)
 from_first none w ls rest = after-stopped ls rest
-from_first (some s) w ls rest = after-early ls rest 1 s ∙ sent-records (early_state s (ls ++ last_line rest)) (early-keeps s (ls ++ last_line rest) (w s refl))
+from_first (some s) w ls rest = after-later ls rest 1 s ∙ sent-records (later_state s (ls ++ last_line rest)) (later-keeps s (ls ++ last_line rest) (w s refl))
 
 -- The first line alone, where it lacks its line feed, and of an empty input.
 only-first : (o : Option State) → ((s : State) → o ≡ some s → well_formed s ≡ true) → saved_text (begun o).progress ≡ saved_from o []
-unfolding early_state
+unfolding later_state
 only-first none w = refl
 only-first (some s) w = sent-records s (w s refl)
 

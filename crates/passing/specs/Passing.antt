@@ -1,29 +1,23 @@
 -- What saving after a script writes, and what resuming writes (02, request 2). Assumes nothing.
-use Rattle.std.specs.Prelude.{cond, List, [], ◌∷◌, ◌++◌, ℕ}
+use Rattle.std.specs.Prelude.{List, [], ◌∷◌, ◌++◌, ℕ}
 use Rattle.std.proofs.Math.Option.{Option, none, some}
 use Rattle.model.specs.State.{State}
-use Rattle.listing.specs.Listing.{answered, early_answered, first_done, first_refused, later_records, state_by}
+use Rattle.listing.specs.Listing.{answered, first_done, first_refused, later_records, state_by}
 use Rattle.records.specs.Reading.{Passed, passed_on}
 use Rattle.records.specs.RecordTexts.{records_text}
-use Rattle.script.specs.EventForms.{is_host_line, line_event}
+use Rattle.script.specs.EventForms.{line_event}
 use Rattle.script.specs.First.{line_first}
 use Rattle.script.specs.Records.{lines}
 
--- The state after later lines, where host lines are late.
+-- The state after lines that follow the first.
 unfoldable pub later_state : State → List (List ℕ) → State
 later_state s [] = s
 later_state s (line ∷ more) = later_state (answered s (line_event line)).next more
 
--- The state after all lines that follow the first: the first one that has another first field than `host` is late, and so are all after it (02, request 7).
-unfoldable pub early_state : State → List (List ℕ) → State
-early_state s [] = s
-early_state s (line ∷ more) =
-    cond (is_host_line line) (early_state (early_answered s (line_event line)).next more) (later_state s (line ∷ more))
-
 -- Saving writes the records of the state after a script. Where the first line is bad, or the input is empty, it writes the refusal line.
 abbrev pub saved_from : Option State → List (List ℕ) → List ℕ
 saved_from none more = first_refused
-saved_from (some s) more = records_text (early_state s more)
+saved_from (some s) more = records_text (later_state s more)
 
 abbrev pub saved_of : List (List ℕ) → List ℕ
 saved_of [] = first_refused
@@ -32,7 +26,7 @@ saved_of (line ∷ more) = saved_from (state_by (line_first line)) more
 unfoldable pub saved : List ℕ → List ℕ
 saved input = saved_of (lines input)
 
--- Resuming reads records, answers them as line 0, and goes on, from line 1, with a script without first line. After records a host line is always late.
+-- Resuming reads records, answers them as line 0, and goes on, from line 1, with a script without first line.
 abbrev pub resumed_from : Option Passed → List ℕ
 resumed_from none = first_refused
 resumed_from (some r) = first_done ++ later_records 1 r.state r.rest

@@ -6,7 +6,7 @@ use Rattle.listing.specs.Listing.{first_done, first_refused}
 use Rattle.records.specs.Reading.{Passed, passed_on}
 use Rattle.records.specs.RecordTexts.{longest_text, records_text}
 use Rattle.script.specs.Records.{lines}
-use Rattle.session.specs.Session.{Feeding, Progress, consumed, early, finished, first, last_ended, later, stopped}
+use Rattle.session.specs.Session.{Feeding, Progress, consumed, finished, first, last_ended, later, stopped}
 use Rattle.transfer.specs.Sent.{sent_text}
 use Rattle.passing.specs.Passing.{resumed, saved}
 
@@ -17,7 +17,6 @@ line_zero done = cond done first_done first_refused
 -- What is saved of a session whose script has ended.
 abbrev pub saved_text : Progress → List ℕ
 saved_text (first line) = first_refused
-saved_text (early number s line) = sent_text s
 saved_text (later number s line) = sent_text s
 saved_text stopped = first_refused
 

@@ -82,7 +82,6 @@ pub fn save(session: Session, out: &mut [u8; LONGEST_TEXT]) -> usize
     let phase = last.phase;
     match phase {
         Phase::First => write_line_zero(out, false),
-        Phase::Early => write_machine(last, out),
         Phase::Later => write_machine(last, out),
         Phase::Stopped => write_line_zero(out, false),
     }

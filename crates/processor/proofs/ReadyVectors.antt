@@ -13,7 +13,7 @@ use Rattle.model.specs.declared.machine.Shape.{Shape}
 use Rattle.model.specs.Arrays.{number_at}
 use Rattle.model.specs.Claims.{TopVectorDecides}
 use Rattle.model.specs.Entry.{is_ready, highest_ready, top_vector}
-use Rattle.model.specs.State.{is_pending, context, no_control, no_watch, no_vina}
+use Rattle.model.specs.State.{is_pending, context, no_control, no_watch}
 use Rattle.processor.specs.Record.{vp_of, word_in}
 use Rattle.processor.proofs.RecordStores.{tpr-read, pending-read}
 
@@ -28,7 +28,7 @@ module _ (z : Shape) (ws : List ℕ) (l : ℕ) where
   pending_words = four (λ i. word_in z ws l (14 + i))
 
   abbrev vectors : Context
-  vectors = record { registers = []; tpr = word_in z ws l 13; pending = pending_words; secure = []; control = no_control; watch = no_watch; vina = no_vina }
+  vectors = record { registers = []; tpr = word_in z ws l 13; pending = pending_words; secure = []; control = no_control; watch = no_watch }
 
   word_at : (i : ℕ) → i < 4 → number_at 4 pending_words i ≡ word_in z ws l (14 + i)
   word_at i h = number_of pending_words i h ∙ four-at (λ i. word_in z ws l (14 + i)) 0 i h

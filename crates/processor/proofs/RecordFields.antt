@@ -59,8 +59,6 @@ module _ (row : List ℕ) (k x : ℕ) where
         word_set 26 (omega arith),
         word_set 27 (omega arith),
         word_set 28 (omega arith),
-        word_set 29 (omega arith),
-        word_set 30 (omega arith),
       )
 
 -- A record after word k of a level's row was set to x.

@@ -21,8 +21,7 @@ unfoldable word_from : Context → ℕ → ℕ
 word_from c k =
     cond (ltb k 13) (get_or c.registers k 0) (cond (eqb k 13) c.tpr (cond (ltb k 18) (get_or c.pending (k - 14) 0) (cond (ltb k 22) (get_or c.secure (k - 18) 0)
     (cond (ltb k 26) (cond (eqb k 22) c.control.reason (cond (eqb k 23) c.control.from.0 (cond (eqb k 24) c.control.rax c.control.rcx)))
-    (cond (ltb k 29) (cond (eqb k 26) c.watch.intercepts (cond (eqb k 27) c.watch.cr0_mask c.watch.cr4_mask))
-    (cond (eqb k 29) c.vina.word c.vina.asserted))))))
+    (cond (eqb k 26) c.watch.intercepts (cond (eqb k 27) c.watch.cr0_mask c.watch.cr4_mask))))))
 
 module _ (row : List ℕ) (k : ℕ) (h : k < level_words) where
   abbrev Found : ℕ → Type 0
@@ -55,22 +54,14 @@ module _ (row : List ℕ) (k : ℕ) (h : k < level_words) where
       let q : k ≡ 25 = omega arith in
       ap (λ j. get_or row j 0) q)))
 
-  watches : 26 ≤ k → k < 29 → Found (cond (eqb k 26) (get_or row 26 0) (cond (eqb k 27) (get_or row 27 0) (get_or row 28 0)))
-  watches low high =
+  watches : 26 ≤ k → Found (cond (eqb k 26) (get_or row 26 0) (cond (eqb k 27) (get_or row 27 0) (get_or row 28 0)))
+  watches low =
       by (eqb k 26) _ _ (at 26) (λ f.
       by (eqb k 27) _ _ (at 27) (λ g.
       let f' : (k ≡ 26 → ⊥) = eqb-false k 26 f in
       let g' : (k ≡ 27 → ⊥) = eqb-false k 27 g in
       let q : k ≡ 28 = omega arith in
       ap (λ j. get_or row j 0) q))
-
-  -- The VINA word and its state.
-  vinas : 29 ≤ k → Found (cond (eqb k 29) (get_or row 29 0) (get_or row 30 0))
-  vinas low =
-      by (eqb k 29) _ _ (at 29) (λ f.
-      let f' : (k ≡ 29 → ⊥) = eqb-false k 29 f in
-      let q : k ≡ 30 = omega arith in
-      ap (λ j. get_or row j 0) q)
 
   word-from : Found (word_from (context_of row) k)
   unfolding context_of word_from
@@ -81,8 +72,7 @@ module _ (row : List ℕ) (k : ℕ) (h : k < level_words) where
       let up = ltb-false k 13 a in
       by (ltb k 18) _ _ (in-part 14 4 (le-ltb k 14 (omega arith))) (λ c.
       by (ltb k 22) _ _ (in-part 18 4 c) (λ d.
-      by (ltb k 26) _ _ (λ r. controls (ltb-false k 22 d) (ltb-true k 26 r)) (λ r.
-      by (ltb k 29) _ _ (λ t. watches (ltb-false k 26 r) (ltb-true k 29 t)) (λ t. vinas (ltb-false k 29 t)))))))
+      by (ltb k 26) _ _ (λ r. controls (ltb-false k 22 d) (ltb-true k 26 r)) (λ r. watches (ltb-false k 26 r))))))
 
 -- Word i of a record, from what it stands for.
 unfoldable read_back : VirtualProcessor → ℕ → ℕ

@@ -67,7 +67,7 @@ module _ (z : Shape) (ws : List ℕ) (t : ℕ) (h : is_level z t ≡ true) (size
 -- A level that starts: its row is new, and it is added to the set of the enabled levels.
 module _ (z : Shape) (ws ws₁ : List ℕ) (t ip sp cr : ℕ) (h : is_level z t ≡ true) (size : length ws ≡ record_words) (size₁ : length ws₁ ≡ record_words) where
   abbrev new_row : List ℕ
-  new_row = started_row ip sp cr (word_in z ws t 18) (word_in z ws t 19) (word_in z ws t 20) (word_in z ws t 21) (context z (vp_of ws) t).watch (context z (vp_of ws) t).vina
+  new_row = started_row ip sp cr (word_in z ws t 18) (word_in z ws t 19) (word_in z ws t 20) (word_in z ws t 21) (context z (vp_of ws) t).watch
 
   abbrev new_set : ℕ
   new_set = put t 1 (get_or ws₁ 1 0) 1

@@ -1,5 +1,5 @@
 -- The definitions of crate `model` that read or change one word of a level, by the words of the record: private registers, TPR,
--- pending vectors, secure words, control records, watched registers and VINA words (01, "The bench model"). Assumes nothing.
+-- pending vectors, secure words, control records and watched registers (01, "The bench model"). Assumes nothing.
 use mathlib.Core.Path.{◌≡◌, refl, sym, ◌∙◌}
 use mathlib.Core.Bool.{true, ◌&&◌}
 use mathlib.Core.List.{List}
@@ -13,15 +13,14 @@ use Rattle.model.specs.declared.machine.Context.{Context}
 use Rattle.model.specs.declared.machine.Control.{Control}
 use Rattle.model.specs.declared.machine.Shape.{Shape}
 use Rattle.model.specs.declared.machine.VirtualProcessor.{VirtualProcessor}
-use Rattle.model.specs.declared.machine.Vina.{Vina}
 use Rattle.model.specs.declared.machine.Watch.{Watch}
 use Rattle.model.proofs.Bools.{and_left, and_right, cond_same}
 use Rattle.model.proofs.Four.{below-four}
 use Rattle.model.specs.Arrays.{number_at, stored}
 use Rattle.model.specs.Registers.{private_of}
 use Rattle.model.specs.State.{context, is_level, no_context, lock_bit}
-use Rattle.model.specs.Updates.{with_pending, with_secure, set_private, set_secure, set_watch, set_vina, cleared, unlocked}
-use Rattle.processor.specs.Record.{intercepts, cr0_mask_index, cr4_mask_index, vina_word, asserted, intercepts_of, none_watches, level_words, part, context_of, vp_of, word_in, updated, altered, word_put, lock_cleared, control_set}
+use Rattle.model.specs.Updates.{with_pending, with_secure, set_private, set_secure, set_watch, cleared, unlocked}
+use Rattle.processor.specs.Record.{intercepts, cr0_mask_index, cr4_mask_index, intercepts_of, none_watches, level_words, part, context_of, vp_of, word_in, updated, altered, word_put, lock_cleared, control_set}
 use Rattle.processor.proofs.RecordWords.{part-read, field-read, altered-again}
 
 -- Words that are read.
@@ -68,13 +67,6 @@ module _ (z : Shape) (ws : List ℕ) (l : ℕ) where
       let cr4 = c ∙ field-read (λ c. c.watch.cr4_mask) cr4_mask_index (omega arith) refl (λ row. refl) z ws l in
       λ i. record { intercepts = word i; cr0_mask = cr0 i; cr4_mask = cr4 i }
 
-  pub vina-read : (n : Vina) → n.word ≡ word_in z ws l vina_word → n.asserted ≡ word_in z ws l asserted → n ≡ (context z (vp_of ws) l).vina
-  unfolding context_of
-  vina-read n a b =
-      let word = a ∙ field-read (λ c. c.vina.word) vina_word (omega arith) refl (λ row. refl) z ws l in
-      let state = b ∙ field-read (λ c. c.vina.asserted) asserted (omega arith) refl (λ row. refl) z ws l in
-      λ i. record { word = word i; asserted = state i }
-
 -- The intercept control words of levels 1 to 3, where all are 0.
 pub words-zero : (ws : List ℕ) → none_watches ws ≡ true → (z : Shape) (t : ℕ) → 0 < t → t < 4 → (context z (vp_of ws) t).watch.intercepts ≡ 0
 unfolding context_of
@@ -102,8 +94,6 @@ module _ (z : Shape) (p : VirtualProcessor) (l : ℕ) where
         ne_eqb r intercepts (λ e. omega arith),
         ne_eqb r cr0_mask_index (λ e. omega arith),
         ne_eqb r cr4_mask_index (λ e. omega arith),
-        ne_eqb r vina_word (λ e. omega arith),
-        ne_eqb r asserted (λ e. omega arith),
       )
 
   pub pending-put : (i x : ℕ) → i < 4 → word_put z p l (14 + i) x ≡ altered z p l (λ c. with_pending c (stored 4 c.pending i x))
@@ -135,12 +125,6 @@ pub watch-stored : (z : Shape) (p q r s : VirtualProcessor) (l : ℕ) (w : Watch
 unfolding stored set_watch
 watch-stored z p q r s l w size e f g =
     rw (g, f, e, altered-again z p l (updated intercepts w.intercepts) (updated cr0_mask_index w.cr0_mask) size, altered-again z p l (λ x. updated cr0_mask_index w.cr0_mask (updated intercepts w.intercepts x)) (updated cr4_mask_index w.cr4_mask) size)
-
--- A VINA word and its state, stored one after the other.
-pub vina-stored : (z : Shape) (p q r : VirtualProcessor) (l : ℕ) (n : Vina) → length p.contexts ≡ 4
-    → q ≡ word_put z p l vina_word n.word → r ≡ word_put z q l asserted n.asserted → r ≡ set_vina z p l n
-unfolding stored set_vina
-vina-stored z p q r l n size e f = rw (f, e, altered-again z p l (updated vina_word n.word) (updated asserted n.asserted) size)
 
 -- The four locks of a level, cleared one after the other.
 pub locks-cleared : (z : Shape) (p q r s t : VirtualProcessor) (l : ℕ) → length p.contexts ≡ 4

@@ -1,15 +1,14 @@
--- A virtual processor's record in 146 words, as code lends and changes it (01, "The bench model"). Word 0 is the active level,
--- word 1 the set of the levels enabled on the processor, words 2 to 21 are the shared registers 12 to 31, and a row of 31 words
+-- A virtual processor's record in 138 words, as code lends and changes it (01, "The bench model"). Word 0 is the active level,
+-- word 1 the set of the levels enabled on the processor, words 2 to 21 are the shared registers 12 to 31, and a row of 29 words
 -- for each level follows: registers 0 to 12, the TPR class, four words of pending vectors, the configuration of four lower
--- levels, the control record (reason, level left, RAX, RCX), what it asks to be told of registers (its intercept control word, its
--- masks for CR0 and CR4), and its VINA word and state. src/record.rt has the same constants. Assumes nothing.
+-- levels, the control record (reason, level left, RAX, RCX), and what it asks to be told of registers (its intercept control word, its
+-- masks for CR0 and CR4). src/record.rt has the same constants. Assumes nothing.
 use Rattle.std.specs.Prelude.{Bool, cond, ◌&&◌, List, [], ◌∷◌, ◌++◌, ◌≡◌, ℕ, ◌+◌, ◌-◌, ◌*◌, ◌<◌, leb, eqb, get_or, replicate, take, drop, set}
 use Rattle.word.specs.Field.{put}
 use Rattle.model.specs.declared.machine.Context.{Context}
 use Rattle.model.specs.declared.machine.Control.{Control}
 use Rattle.model.specs.declared.machine.Shape.{Shape}
 use Rattle.model.specs.declared.machine.VirtualProcessor.{VirtualProcessor}
-use Rattle.model.specs.declared.machine.Vina.{Vina}
 use Rattle.model.specs.declared.machine.Watch.{Watch}
 use Rattle.model.specs.Arrays.{number_at, stored}
 use Rattle.model.specs.State.{level, level_set, is_level, context, lock_bit}
@@ -17,7 +16,7 @@ use Rattle.model.specs.Updates.{with_control, put_context, set_secure}
 
 -- The words of a record.
 abbrev pub record_words : ℕ
-record_words = 146
+record_words = 138
 
 -- The active level, and the set of the enabled levels.
 abbrev pub active : ℕ
@@ -38,7 +37,7 @@ abbrev pub levels : ℕ
 levels = 22
 
 abbrev pub level_words : ℕ
-level_words = 31
+level_words = 29
 
 -- Offsets in a row, after the private registers.
 abbrev pub private_registers : ℕ
@@ -74,12 +73,6 @@ cr0_mask_index = 27
 abbrev pub cr4_mask_index : ℕ
 cr4_mask_index = 28
 
-abbrev pub vina_word : ℕ
-vina_word = 29
-
-abbrev pub asserted : ℕ
-asserted = 30
-
 -- n words from a place on.
 abbrev pub part : ℕ → ℕ → List ℕ → List ℕ
 part place n ws = take n (drop place ws)
@@ -96,13 +89,12 @@ context_of row = record {
   secure = part secure 4 row;
   control = record { reason = get_or row reason 0; from = level (get_or row from 0); rax = get_or row saved_rax 0; rcx = get_or row saved_rcx 0 };
   watch = record { intercepts = get_or row intercepts 0; cr0_mask = get_or row cr0_mask_index 0; cr4_mask = get_or row cr4_mask_index 0 };
-  vina = record { word = get_or row vina_word 0; asserted = get_or row asserted 0 };
 }
 
 unfoldable pub context_in : List ℕ → ℕ → Context
 context_in ws l = context_of (row_of ws l)
 
--- The record that the words stand for. No two arrays of 146 words stand for one record (`record-one` of
+-- The record that the words stand for. No two arrays of 138 words stand for one record (`record-one` of
 -- proofs/RecordOne.antt).
 unfoldable pub vp_of : List ℕ → VirtualProcessor
 vp_of ws = record {
@@ -138,7 +130,6 @@ updated k x c = record {
     cr0_mask = cond (eqb k cr0_mask_index) x c.watch.cr0_mask;
     cr4_mask = cond (eqb k cr4_mask_index) x c.watch.cr4_mask;
   };
-  vina = record { word = cond (eqb k vina_word) x c.vina.word; asserted = cond (eqb k asserted) x c.vina.asserted };
 }
 
 -- A context changed and put back, and the same where the change is the word at an offset; beyond M nothing changes.
@@ -160,11 +151,10 @@ lock_cleared z p t l = set_secure z p t l (put lock_bit 1 (number_at 4 (context 
 abbrev pub control_set : Shape → VirtualProcessor → ℕ → Control → VirtualProcessor
 control_set z p l k = put_context z p l (with_control (context z p l) k)
 
--- The row of a level that starts, with the configuration words that it holds of four levels, what it asks to be told of registers, and its VINA word and
--- state.
-abbrev pub started_row : ℕ → ℕ → ℕ → ℕ → ℕ → ℕ → ℕ → Watch → Vina → List ℕ
-started_row ip sp cr first second third fourth w n =
-    ip ∷ sp ∷ 0 ∷ cr ∷ replicate 14 0 ++ first ∷ second ∷ third ∷ fourth ∷ replicate 4 0 ++ w.intercepts ∷ w.cr0_mask ∷ w.cr4_mask ∷ n.word ∷ n.asserted ∷ []
+-- The row of a level that starts, with the configuration words that it holds of four levels and what it asks to be told of registers.
+abbrev pub started_row : ℕ → ℕ → ℕ → ℕ → ℕ → ℕ → ℕ → Watch → List ℕ
+started_row ip sp cr first second third fourth w =
+    ip ∷ sp ∷ 0 ∷ cr ∷ replicate 14 0 ++ first ∷ second ∷ third ∷ fourth ∷ replicate 4 0 ++ w.intercepts ∷ w.cr0_mask ∷ w.cr4_mask ∷ []
 
 -- The intercept control word that a level's row holds; and no bit is set in those of levels 1 to 3, whatever the maximum level is.
 abbrev pub intercepts_of : List ℕ → ℕ → ℕ

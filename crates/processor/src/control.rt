@@ -7,9 +7,8 @@ ghost use Rattle.processor.specs.Record.{Within, record_words, level_enabled, ro
 
 use crate::record;
 use crate::record::Record;
-use crate::vina::vina_of;
 use crate::watch::watch_of;
-use model::machine::{Control, Shape, Vina, Watch};
+use model::machine::{Control, Shape, Watch};
 use model::quantity::Level;
 use model::register;
 use model::set::is_level;
@@ -73,8 +72,8 @@ fn enable(vp: &mut Record, level: Level)
     words[record::ENABLED] = record::with_bit(words[record::ENABLED], level.0, 1);
 }
 
-// The row of a level that starts: RIP, RSP and CR0 as given, the configuration of lower levels, what it asks to be told of their
-// registers, and its VINA word and state as they were, and 0 elsewhere.
+// The row of a level that starts: RIP, RSP and CR0 as given, the configuration of lower levels and what it asks to be told of their
+// registers as they were, and 0 elsewhere.
 fn started_row(
     initial: InitialContext,
     zero: u64,
@@ -82,9 +81,8 @@ fn started_row(
     two: u64,
     three: u64,
     watch: Watch,
-    vina: Vina,
 ) -> Row
-    ensures { result ≡ started_row initial.rip initial.rsp initial.cr0 zero one two three watch vina }
+    ensures { result ≡ started_row initial.rip initial.rsp initial.cr0 zero one two three watch }
 {
     let mut row = [0; record::LEVEL_WORDS as usize];
     row[register::RIP as usize] = initial.rip;
@@ -97,13 +95,11 @@ fn started_row(
     row[record::INTERCEPTS as usize] = watch.intercepts;
     row[record::CR0_MASK as usize] = watch.cr0_mask;
     row[record::CR4_MASK as usize] = watch.cr4_mask;
-    row[record::VINA as usize] = vina.word;
-    row[record::ASSERTED as usize] = vina.asserted;
     row
 }
 
 // envp: makes the target enabled, with RIP, RSP and CR0 as given, its other private registers 0, TPR 0, nothing pending, and an
-// empty control record. What it holds of lower levels stays, what it asks to be told of their registers, and its VINA word and state.
+// empty control record. What it holds of lower levels stays, and what it asks to be told of their registers.
 pub fn start(shape: Shape, vp: &mut Record, target: Level, initial: InitialContext)
     ensures { vp_of vp.new
         ≡ started shape (vp_of vp.old) target.0 initial.rip initial.rsp initial.cr0 }
@@ -116,7 +112,6 @@ pub fn start(shape: Shape, vp: &mut Record, target: Level, initial: InitialConte
             record::level_word(shape, vp, target, record::SECURE + 2),
             record::level_word(shape, vp, target, record::SECURE + 3),
             watch_of(shape, vp, target),
-            vina_of(shape, vp, target),
         );
         set_row(vp, target, row);
         enable(vp, target);

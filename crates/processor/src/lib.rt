@@ -6,6 +6,5 @@ pub mod record; // the words of a record
 pub mod record_registers; // private and shared registers
 pub mod interrupt; // vectors, pending and ready
 pub mod secure; // secure configuration of lower levels
-pub mod vina; // VINA words and states
 pub mod watch; // what a level asks to be told of registers
 pub mod control; // control records, and the start of a level

@@ -13,7 +13,7 @@ use model::set;
 use model::set::LevelSet;
 
 // The words of a record.
-pub const RECORD_WORDS: usize = 146;
+pub const RECORD_WORDS: usize = 138;
 
 pub type Record = [u64; RECORD_WORDS];
 
@@ -30,7 +30,7 @@ pub const SHARED_REGISTERS: u64 = 20;
 // The first word of level 0's row, and the words of a row.
 pub const LEVELS: u64 = 22;
 
-pub const LEVEL_WORDS: u64 = 31;
+pub const LEVEL_WORDS: u64 = 29;
 
 // Offsets in a row. The private registers come first.
 pub const PRIVATE_REGISTERS: u64 = 13;
@@ -58,11 +58,6 @@ pub const INTERCEPTS: u64 = 26;
 pub const CR0_MASK: u64 = 27;
 
 pub const CR4_MASK: u64 = 28;
-
-// The VINA word of the level, and whether its state is asserted.
-pub const VINA: u64 = 29;
-
-pub const ASSERTED: u64 = 30;
 
 // The bits of a word.
 const WORD_BITS: u64 = 64;

@@ -15,20 +15,20 @@ use Rattle.model.specs.Updates.{with_active, with_enabled, with_secure}
 use Rattle.promise.specs.Promise.{Some, SomeOther, SomeLocked}
 
 -- A state of two processors with these parts.
-abbrev state_with : Shape → ℕ → Partition → VirtualProcessor → VirtualProcessor → List ℕ → State
-state_with z P x p q ws = record {
-  machine = record { processors = 2; pages = P; host_mask = 0; shape = z; partition = x; vps = p ∷ q ∷ p ∷ p ∷ [] };
+abbrev state_with : Shape → ℕ → Partition → VirtualProcessor → VirtualProcessor → ℕ → List ℕ → State
+state_with z P x p q k ws = record {
+  machine = record { processors = 2; pages = P; host_mask = k; shape = z; partition = x; vps = p ∷ q ∷ p ∷ p ∷ [] };
   words = ws;
 }
 
-pub some-state : (z : Shape) (P : ℕ) (x : Partition) (p : VirtualProcessor) (ws : List ℕ) → Some z P x p ws
+pub some-state : (z : Shape) (P : ℕ) (x : Partition) (p : VirtualProcessor) (k : ℕ) (ws : List ℕ) → Some z P x p k ws
 unfolding shape pages partition processors is_processor vp active_of active
-some-state z P x p ws = record {
-  state = state_with z P x p p ws;
+some-state z P x p k ws = record {
+  state = state_with z P x p p k ws;
   v = 0;
   runs = record { shaped = refl; there = refl; holds = refl };
   acts = record { shaped = refl; paged = refl; keeps = refl; actor = refl };
-  lends = record { words = refl };
+  lends = record { host = refl; words = refl };
 }
 
 -- On the second processor level l is active, and every level is enabled, or those that the first has enabled.
@@ -47,7 +47,7 @@ enabled-elsewhere z p t false = rw and-false (go (in_set z p.enabled t))
 pub some-other : (z : Shape) (P : ℕ) (x : Partition) (l : ℕ) (p : VirtualProcessor) (t : ℕ) (elsewhere : Bool) → SomeOther z P x l p t elsewhere
 unfolding shape pages partition processors is_processor vp active_of active enabled_anywhere enabled_on enabled_at any
 some-other z P x l p t elsewhere = record {
-  state = state_with z P x p (second p l elsewhere) [];
+  state = state_with z P x p (second p l elsewhere) 0 [];
   v = 1;
   w = 0;
   acts = record { shaped = refl; paged = refl; keeps = refl; actor = refl };
@@ -65,7 +65,7 @@ some-locked held = go held
 
     locked_by : ℕ → State
     locked_by w = state_with (record { max_level = level 1; dr6_shared = false; smep = false }) 0 (record { enabled = level_set 1; mbec = level_set 0; configs = []; masks = [] })
-        (holding w) (holding w) []
+        (holding w) (holding w) 0 []
 
     go : (b : Bool) → SomeLocked b
     go true = record { state = locked_by 2; v = 0; there = refl; is = refl }

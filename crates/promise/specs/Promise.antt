@@ -27,8 +27,9 @@ pub record Acts (z : Shape) (P : ℕ) (x : Partition) (l : ℕ) (s : State) (v :
   pub keeps : partition s ≡ x
   pub actor : active s v ≡ l
 
--- The state s has the words ws.
-pub record Lends (ws : List ℕ) (s : State) : Type 0 where
+-- The state s has the host's mask k and the words ws.
+pub record Lends (k : ℕ) (ws : List ℕ) (s : State) : Type 0 where
+  pub host : s.machine.host_mask ≡ k
   pub words : s.words ≡ ws
 
 -- Level t is enabled on some processor of the state s exactly where the record p has it enabled, or else where `elsewhere` tells so of a level of the shape z.
@@ -36,12 +37,12 @@ pub record Elsewhere (z : Shape) (p : VirtualProcessor) (t : ℕ) (elsewhere : B
   pub anywhere : enabled_anywhere s t ≡ (enabled_at z p t || (is_level z t && elsewhere))
 
 -- There is a state with all parts that an event of one processor is given.
-pub record Some (z : Shape) (P : ℕ) (x : Partition) (p : VirtualProcessor) (ws : List ℕ) : Type 0 where
+pub record Some (z : Shape) (P : ℕ) (x : Partition) (p : VirtualProcessor) (k : ℕ) (ws : List ℕ) : Type 0 where
   pub state : State
   pub v : ℕ
   pub runs : Runs z p state v
   pub acts : Acts z P x (active_of p) state v
-  pub lends : Lends ws state
+  pub lends : Lends k ws state
 
 -- There is one in which level l acts on a processor, another processor has the record p, and level t is enabled elsewhere or not.
 pub record SomeOther (z : Shape) (P : ℕ) (x : Partition) (l : ℕ) (p : VirtualProcessor) (t : ℕ) (elsewhere : Bool) : Type 0 where

@@ -13,7 +13,7 @@ use Rattle.decimal.specs.Read.{read_decimal}
 use Rattle.decimal.specs.Write.{decimal, digits_before, digits_in}
 use Rattle.decimal.specs.declared.Number.TheVariants.{Malformed}
 use Rattle.records.specs.declared.place.Place.{Place}
-use Rattle.records.specs.declared.place.Place.TheVariants.{PartitionEnabled, Mbec, Config, Active, Shared, Register, Tpr, Pending, Enabled, Secure, Reason, From, Rax, Rcx, Word, Mask, Intercepts, Cr0Mask, Cr4Mask, HostMask, VinaWord, Asserted}
+use Rattle.records.specs.declared.place.Place.TheVariants.{PartitionEnabled, Mbec, Config, Active, Shared, Register, Tpr, Pending, Enabled, Secure, Reason, From, Rax, Rcx, Word, Mask, Intercepts, Cr0Mask, Cr4Mask}
 use Rattle.records.specs.Reading.{number_after}
 use Rattle.records.specs.RecordTexts.{closed, front, head_of}
 use Rattle.records.proofs.ClosedNumbers.{closed_parts, closed-step}
@@ -160,9 +160,6 @@ room-digits (Mask p t) h = (omega arith, (omega arith, tt))
 room-digits (Intercepts v l) h = (omega arith, (omega arith, tt))
 room-digits (Cr0Mask v l) h = (omega arith, (omega arith, (omega arith, tt)))
 room-digits (Cr4Mask v l) h = (omega arith, (omega arith, (omega arith, tt)))
-room-digits (HostMask p) h = (omega arith, tt)
-room-digits (VinaWord v l) h = (omega arith, (omega arith, tt))
-room-digits (Asserted v l) h = (omega arith, (omega arith, tt))
 
 -- The number behind the front of a record.
 pub no_front : (line : List ℕ) (p : Place) → After line 0 (front p) Nothing → number_after (front p) line ≡ Malformed

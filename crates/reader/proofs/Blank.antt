@@ -14,7 +14,7 @@ use Rattle.model.proofs.Four.{below-four}
 use Rattle.processor.specs.Record.{record_words}
 use Rattle.script.specs.EventForms.{processor}
 use Rattle.records.specs.declared.place.Place.{Place}
-use Rattle.records.specs.declared.place.Place.TheVariants.{PartitionEnabled, Mbec, Config, Active, Shared, Register, Tpr, Pending, Enabled, Secure, Reason, From, Rax, Rcx, Word, Mask, Intercepts, Cr0Mask, Cr4Mask, HostMask, VinaWord, Asserted}
+use Rattle.records.specs.declared.place.Place.TheVariants.{PartitionEnabled, Mbec, Config, Active, Shared, Register, Tpr, Pending, Enabled, Secure, Reason, From, Rax, Rcx, Word, Mask, Intercepts, Cr0Mask, Cr4Mask}
 use Rattle.records.specs.Places.{has, known}
 use Rattle.records.specs.Reading.{only}
 use Rattle.records.specs.Values.{number}
@@ -75,11 +75,8 @@ module _ (c : Setup) where
   blank-zero (Intercepts v l) h = row_zero v.0 _ h.0 (omega arith) (λ e. omega arith)
   blank-zero (Cr0Mask v l) h = row_zero v.0 _ h.0 (omega arith) (λ e. omega arith)
   blank-zero (Cr4Mask v l) h = row_zero v.0 _ h.0 (omega arith) (λ e. omega arith)
-  blank-zero (VinaWord v l) h = row_zero v.0 _ h.0 (omega arith) (λ e. omega arith)
-  blank-zero (Asserted v l) h = row_zero v.0 _ h.0 (omega arith) (λ e. omega arith)
   blank-zero (Word p) h = get_or-replicate 64 p.0 0 0 h
   blank-zero (Mask p t) h = get_or-replicate 256 (4 * p.0 + t.0) 0 0 (omega arith)
-  blank-zero (HostMask p) h = get_or-replicate 256 (4 * p.0) 0 0 (omega arith)
 
   known_is : (v : ℕ) → v < 4 → ltb v c.processors ≡ known c (processor v)
   known_is v h = rw (lt-ltb v 4 h) (and-true (ltb v c.processors))

@@ -15,14 +15,14 @@ use Rattle.model.specs.State.{level, level_set}
 use Rattle.model.proofs.LevelSets.{set-of-bits}
 use Rattle.model.proofs.Sets.{bits-cong}
 use Rattle.partition.specs.PartitionView.{partition_of}
-use Rattle.processor.specs.Record.{asserted, context_in, context_of, cr0_mask_index, cr4_mask_index, intercepts, level_words, part, record_words, row_of, vina_word, vp_of}
+use Rattle.processor.specs.Record.{context_in, context_of, cr0_mask_index, cr4_mask_index, intercepts, level_words, part, record_words, row_of, vp_of}
 use Rattle.script.specs.EventForms.{page, processor}
 use Rattle.state.specs.Lent.{lent, machine_of}
 use Rattle.records.specs.declared.place.Place.{Place}
-use Rattle.records.specs.declared.place.Place.TheVariants.{PartitionEnabled, Mbec, Config, Active, Shared, Register, Tpr, Pending, Enabled, Secure, Reason, From, Rax, Rcx, Word, Mask, Intercepts, Cr0Mask, Cr4Mask, HostMask, VinaWord, Asserted}
+use Rattle.records.specs.declared.place.Place.TheVariants.{PartitionEnabled, Mbec, Config, Active, Shared, Register, Tpr, Pending, Enabled, Secure, Reason, From, Rax, Rcx, Word, Mask, Intercepts, Cr0Mask, Cr4Mask}
 use Rattle.records.specs.Places.{end_rank, has, known, rank}
 use Rattle.records.specs.Reading.{is_flag, only}
-use Rattle.records.specs.Values.{context_from, mask_place, number, partition_from, set_from, state_from, table, vp_from}
+use Rattle.records.specs.Values.{context_from, number, partition_from, set_from, state_from, table, vp_from}
 use Rattle.records.proofs.Limits.{limits}
 use Rattle.records.proofs.Sequence.{In, Run, Small, here, member, places-run, run-above, there}
 use Rattle.records.proofs.Tables.{list-is}
@@ -52,9 +52,6 @@ room_of c (Mask p t) few h = omega (arith, limits c (Mask p t) h)
 room_of c (Intercepts v l) few h = limits c (Intercepts v l) h
 room_of c (Cr0Mask v l) few h = limits c (Cr0Mask v l) h
 room_of c (Cr4Mask v l) few h = limits c (Cr4Mask v l) h
-room_of c (HostMask p) few h = (limits c (HostMask p) h).1
-room_of c (VinaWord v l) few h = limits c (VinaWord v l) h
-room_of c (Asserted v l) few h = limits c (Asserted v l) h
 
 -- Two places of a state with one rank are the same.
 module _ (c : Setup) where
@@ -93,9 +90,6 @@ place-bit (Mask p t) h = omega arith
 place-bit (Intercepts v l) h = omega arith
 place-bit (Cr0Mask v l) h = omega arith
 place-bit (Cr4Mask v l) h = omega arith
-place-bit (HostMask p) h = omega arith
-place-bit (VinaWord v l) h = omega arith
-place-bit (Asserted v l) h = omega arith
 
 pub record Stands (c : Setup) (m : Parts) (g : Place → ℕ) : Type 0 where
   pub sizes : Sizes m
@@ -206,10 +200,6 @@ module _ {c : Setup} {m : Parts} {g : Place → ℕ} (s : Stands c m g) (few : S
           cr0_mask = (row_at (row v) l cr0_mask_index (omega arith) ∙ s.kept (Cr0Mask (processor v) (level l)) (h, k)) i;
           cr4_mask = (row_at (row v) l cr4_mask_index (omega arith) ∙ s.kept (Cr4Mask (processor v) (level l)) (h, k)) i;
         };
-        vina = record {
-          word = (row_at (row v) l vina_word (omega arith) ∙ s.kept (VinaWord (processor v) (level l)) (h, k)) i;
-          asserted = (row_at (row v) l asserted (omega arith) ∙ s.kept (Asserted (processor v) (level l)) (h, k)) i;
-        };
       }
 
   shared-is : (v : ℕ) → v < 4 → part 2 20 (row v) ≡ table 20 (λ i. G (Shared (processor v) (12 + i)))
@@ -251,20 +241,11 @@ module _ {c : Setup} {m : Parts} {g : Place → ℕ} (s : Stands c m g) (few : S
     masks = masks-are i;
   }
     where
-      mask_is : (i : ℕ) → i < 256 → get_or m.masks i 0 ≡ G (mask_place (i / 4) (i % 4))
-      mask_is i b = go (eqb (i % 4) 0) refl
-        where
-          go : (t : Bool) → eqb (i % 4) 0 ≡ t → get_or m.masks i 0 ≡ G (cond t (HostMask (page (i / 4))) (Mask (page (i / 4)) (level (i % 4))))
-          go true k =
-              let e : i ≡ 4 * (i / 4) = omega (arith, eqb-true (i % 4) 0 k) in
-              ap (λ (j : ℕ). get_or m.masks j 0) e ∙ s.kept (HostMask (page (i / 4))) (omega arith)
-          go false k =
-              let apart : (i % 4 ≡ 0 → ⊥) = eqb-false (i % 4) 0 k in
-              let e : i ≡ 4 * (i / 4) + i % 4 = omega arith in
-              ap (λ (j : ℕ). get_or m.masks j 0) e ∙ s.kept (Mask (page (i / 4)) (level (i % 4))) (omega arith)
-
-      masks-are : m.masks ≡ table 256 (λ i. G (mask_place (i / 4) (i % 4)))
-      masks-are = list-is m.masks 256 0 (λ i. G (mask_place (i / 4) (i % 4))) s.sizes.masks mask_is
+      masks-are : m.masks ≡ table 256 (λ i. G (Mask (page (i / 4)) (level (i % 4))))
+      masks-are = list-is m.masks 256 0 (λ i. G (Mask (page (i / 4)) (level (i % 4)))) s.sizes.masks
+          (λ i b.
+          let e : i ≡ 4 * (i / 4) + i % 4 = omega arith in
+          ap (λ (j : ℕ). get_or m.masks j 0) e ∙ s.kept (Mask (page (i / 4)) (level (i % 4))) (omega arith))
 
   words_are : take c.pages m.words ≡ table c.pages (λ p. G (Word (page p)))
   unfolding slot_of Room

@@ -15,13 +15,13 @@ use Rattle.model.specs.declared.quantity.Level.{Level}
 use Rattle.model.specs.declared.quantity.Processor.{Processor}
 use Rattle.model.specs.State.{level}
 use Rattle.model.proofs.ArrayLaws.{set_cases}
-use Rattle.processor.specs.Record.{asserted, cr0_mask_index, cr4_mask_index, intercepts, level_words, record_words, vina_word}
+use Rattle.processor.specs.Record.{cr0_mask_index, cr4_mask_index, intercepts, level_words, record_words}
 use Rattle.script.specs.EventForms.{page, processor}
 use Rattle.records.specs.declared.place.Place.{Place}
-use Rattle.records.specs.declared.place.Place.TheVariants.{PartitionEnabled, Mbec, Config, Active, Shared, Register, Tpr, Pending, Enabled, Secure, Reason, From, Rax, Rcx, Word, Mask, Intercepts, Cr0Mask, Cr4Mask, HostMask, VinaWord, Asserted}
+use Rattle.records.specs.declared.place.Place.TheVariants.{PartitionEnabled, Mbec, Config, Active, Shared, Register, Tpr, Pending, Enabled, Secure, Reason, From, Rax, Rcx, Word, Mask, Intercepts, Cr0Mask, Cr4Mask}
 use Rattle.records.specs.Reading.{is_flag}
-use Rattle.records.specs.Values.{mask_place, number}
-use Rattle.records.proofs.Made.{at-host, at_level, flag-back}
+use Rattle.records.specs.Values.{number}
+use Rattle.records.proofs.Made.{flag-back}
 use Rattle.reader.specs.Slots.{Parts, Array, of_levels, of_masks, of_words, of_record, word_at, with_word, Slot, whole, one_bit, slot_of, in_slot, with_slot, kept_at, stored, Room}
 
 -- What holds of a word, and of the one that is stored in its place, holds after the store.
@@ -160,15 +160,14 @@ row_place v l k =
     (cond (eqb k 13) (Tpr v l)
     (cond (ltb k 18) (Pending v l (k - 14))
     (cond (ltb k 22) (Secure v l (level (k - 18))) (cond (eqb k 22) (Reason v l) (cond (eqb k 23) (From v l) (cond (eqb k 24) (Rax v l)
-    (cond (eqb k 25) (Rcx v l) (cond (eqb k intercepts) (Intercepts v l) (cond (eqb k cr0_mask_index) (Cr0Mask v l)
-    (cond (eqb k cr4_mask_index) (Cr4Mask v l) (cond (eqb k vina_word) (VinaWord v l) (Asserted v l))))))))))))
+    (cond (eqb k 25) (Rcx v l) (cond (eqb k intercepts) (Intercepts v l) (cond (eqb k cr0_mask_index) (Cr0Mask v l) (Cr4Mask v l))))))))))
 
 abbrev record_place : Processor → ℕ → Place
 record_place v i = cond (eqb i 0) (Active v) (cond (ltb i 22) (Shared v (i + 10)) (row_place v (level ((i - 22) / level_words)) ((i - 22) % level_words)))
 
 abbrev place_of : Slot → Place
 place_of (whole of_levels i) = Config (level (i - 2))
-place_of (whole of_masks i) = mask_place (i / 4) (i % 4)
+place_of (whole of_masks i) = Mask (page (i / 4)) (level (i % 4))
 place_of (whole of_words i) = Word (page i)
 place_of (whole (of_record v) i) = record_place (processor v) i
 place_of (one_bit of_levels i b) = cond (eqb i 0) (PartitionEnabled (level b)) (Mbec (level b))
@@ -215,17 +214,11 @@ slot-place (Rcx v l) h = row-place v l 25 (omega arith)
 slot-place (Intercepts v l) h = row-place v l intercepts (omega arith)
 slot-place (Cr0Mask v l) h = row-place v l cr0_mask_index (omega arith)
 slot-place (Cr4Mask v l) h = row-place v l cr4_mask_index (omega arith)
-slot-place (VinaWord v l) h = row-place v l vina_word (omega arith)
-slot-place (Asserted v l) h = row-place v l asserted (omega arith)
 slot-place (Word p) h = refl
 slot-place (Mask p t) h =
     let q : (4 * p.0 + t.0) / 4 ≡ p.0 = omega arith in
     let r : (4 * p.0 + t.0) % 4 ≡ t.0 = omega arith in
-    at_level q r (ne_eqb t.0 0 (λ e. omega arith))
-slot-place (HostMask p) h =
-    let q : 4 * p.0 / 4 ≡ p.0 = omega arith in
-    let r : 4 * p.0 % 4 ≡ 0 = omega arith in
-    at-host q r
+    rw (q, r)
 
 -- Each place's slot is right and within its array.
 row-right : (v l k : ℕ) → flagged (of_record v) (22 + level_words * l + k) ≡ false
@@ -252,9 +245,6 @@ place-right (Mask p t) h = refl
 place-right (Intercepts v l) h = row-right v.0 l.0 intercepts
 place-right (Cr0Mask v l) h = row-right v.0 l.0 cr0_mask_index
 place-right (Cr4Mask v l) h = row-right v.0 l.0 cr4_mask_index
-place-right (VinaWord v l) h = row-right v.0 l.0 vina_word
-place-right (Asserted v l) h = row-right v.0 l.0 asserted
-place-right (HostMask p) h = refl
 
 place-within : (p : Place) → Room p → Within (slot_of p)
 unfolding slot_of Room
@@ -277,9 +267,6 @@ place-within (Mask p t) h = omega arith
 place-within (Intercepts v l) h = omega arith
 place-within (Cr0Mask v l) h = omega arith
 place-within (Cr4Mask v l) h = omega arith
-place-within (HostMask p) h = omega arith
-place-within (VinaWord v l) h = omega arith
-place-within (Asserted v l) h = omega arith
 
 -- Only a flag is kept as a bit.
 never : {A : Type 0} {a b : Array} {i j c : ℕ} → whole a i ≡ one_bit b j c → A
@@ -306,9 +293,6 @@ place-flag (Mask p t) a i b h = never h
 place-flag (Intercepts v l) a i b h = never h
 place-flag (Cr0Mask v l) a i b h = never h
 place-flag (Cr4Mask v l) a i b h = never h
-place-flag (HostMask p) a i b h = never h
-place-flag (VinaWord v l) a i b h = never h
-place-flag (Asserted v l) a i b h = never h
 
 -- The quantity at a place is the one stored there, and every other place keeps its own.
 module _ {m : Parts} (sizes : Sizes m) (p : Place) (x : ℕ) (room : Room p) where

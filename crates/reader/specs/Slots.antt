@@ -4,9 +4,9 @@ use Rattle.std.specs.Prelude.{List, [], ℕ, ◌+◌, ◌-◌, ◌*◌, ◌<◌,
 use Rattle.word.specs.Field.{bit, put}
 use Rattle.model.specs.declared.quantity.Level.{Level}
 use Rattle.model.specs.declared.quantity.Processor.{Processor}
-use Rattle.processor.specs.Record.{asserted, cr0_mask_index, cr4_mask_index, from, intercepts, level_words, pending, reason, saved_rax, saved_rcx, secure, tpr, vina_word}
+use Rattle.processor.specs.Record.{cr0_mask_index, cr4_mask_index, from, intercepts, level_words, pending, reason, saved_rax, saved_rcx, secure, tpr}
 use Rattle.records.specs.declared.place.Place.{Place}
-use Rattle.records.specs.declared.place.Place.TheVariants.{PartitionEnabled, Mbec, Config, Active, Shared, Register, Tpr, Pending, Enabled, Secure, Reason, From, Rax, Rcx, Word, Mask, Intercepts, Cr0Mask, Cr4Mask, HostMask, VinaWord, Asserted}
+use Rattle.records.specs.declared.place.Place.TheVariants.{PartitionEnabled, Mbec, Config, Active, Shared, Register, Tpr, Pending, Enabled, Secure, Reason, From, Rax, Rcx, Word, Mask, Intercepts, Cr0Mask, Cr4Mask}
 use Rattle.records.specs.Values.{number}
 
 -- The parts that code lends: the words of the levels, the masks, the words of four processors, and the words of the pages.
@@ -68,10 +68,6 @@ slot_of (Mask p t) = whole of_masks (4 * p.0 + t.0)
 slot_of (Intercepts v l) = in_row v l intercepts
 slot_of (Cr0Mask v l) = in_row v l cr0_mask_index
 slot_of (Cr4Mask v l) = in_row v l cr4_mask_index
--- in the place of level 0, which has no mask
-slot_of (HostMask p) = whole of_masks (4 * p.0)
-slot_of (VinaWord v l) = in_row v l vina_word
-slot_of (Asserted v l) = in_row v l asserted
 
 -- The quantity in a slot, and the parts with another quantity in it.
 abbrev pub in_slot : Slot → Parts → ℕ
@@ -90,7 +86,7 @@ abbrev pub stored : Place → ℕ → Parts → Parts
 stored p x m = with_slot (slot_of p) x m
 
 -- The arrays have room for a place: four processors, four levels, 64 pages, and the registers, words and lower levels of each. Of level
--- 0 no flag and no mask is stored.
+-- 0 no flag is stored.
 unfoldable pub Room : Place → Type 0
 Room (PartitionEnabled t) = (0 < t.0) × (t.0 < 4)
 Room (Mbec t) = (0 < t.0) × (t.0 < 4)
@@ -107,10 +103,7 @@ Room (From v l) = (v.0 < 4) × (l.0 < 4)
 Room (Rax v l) = (v.0 < 4) × (l.0 < 4)
 Room (Rcx v l) = (v.0 < 4) × (l.0 < 4)
 Room (Word p) = p.0 < 64
-Room (Mask p t) = (p.0 < 64) × (0 < t.0) × (t.0 < 4)
+Room (Mask p t) = (p.0 < 64) × (t.0 < 4)
 Room (Intercepts v l) = (v.0 < 4) × (l.0 < 4)
 Room (Cr0Mask v l) = (v.0 < 4) × (l.0 < 4)
 Room (Cr4Mask v l) = (v.0 < 4) × (l.0 < 4)
-Room (HostMask p) = p.0 < 64
-Room (VinaWord v l) = (v.0 < 4) × (l.0 < 4)
-Room (Asserted v l) = (v.0 < 4) × (l.0 < 4)

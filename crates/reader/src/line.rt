@@ -133,9 +133,6 @@ fn is_flag(place: Place) -> bool
         Place::Intercepts(_, _) => false,
         Place::Cr0Mask(_, _) => false,
         Place::Cr4Mask(_, _) => false,
-        Place::HostMask(_) => false,
-        Place::VinaWord(_, _) => false,
-        Place::Asserted(_, _) => false,
     }
 }
 

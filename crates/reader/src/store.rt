@@ -141,9 +141,5 @@ pub(crate) fn store(
         Place::Intercepts(v, l) => set_in(vps, v, in_row(l, record::INTERCEPTS), x),
         Place::Cr0Mask(v, l) => set_in(vps, v, in_row(l, record::CR0_MASK), x),
         Place::Cr4Mask(v, l) => set_in(vps, v, in_row(l, record::CR4_MASK), x),
-        // It stands in the place of level 0, which has no mask.
-        Place::HostMask(p) => set_mask_word(masks, 4 * p.0, x),
-        Place::VinaWord(v, l) => set_in(vps, v, in_row(l, record::VINA), x),
-        Place::Asserted(v, l) => set_in(vps, v, in_row(l, record::ASSERTED), x),
     }
 }

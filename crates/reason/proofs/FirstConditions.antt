@@ -11,7 +11,7 @@ use lib.Dec.{eqb, leb}
 use native.Mathlib.Omega.{arith}
 use Rattle.asked.specs.AskedAccess.{asked_by}
 use Rattle.explanation.specs.Explained.{explanation_of}
-use Rattle.listing.specs.Listing.{answered, early_answered}
+use Rattle.listing.specs.Listing.{answered}
 use Rattle.model.specs.Answers.{first_of, number_of, refusal_number}
 use Rattle.model.specs.Claims.{conditions}
 use Rattle.model.specs.State.{State}
@@ -20,12 +20,11 @@ use Rattle.model.specs.WellFormed.{well_formed}
 use Rattle.model.specs.declared.answer.Answer.{Answer}
 use Rattle.model.specs.declared.answer.Answer.TheVariants.{Done, Refused, Intercept}
 use Rattle.model.specs.declared.answer.Refusal.{Refusal}
-use Rattle.model.specs.declared.event.Action.TheVariants.{Enpart, Envp, Call, Ret, Read, Write, Fetch, Protect, Config, Secure, Flush, Rreg, Wreg, Tpr, Ack, Pstat, Vstat, Caps, Cri, Crm, Vina, Vclear}
+use Rattle.model.specs.declared.event.Action.TheVariants.{Enpart, Envp, Call, Ret, Read, Write, Fetch, Protect, Config, Secure, Flush, Rreg, Wreg, Tpr, Ack, Pstat, Vstat, Caps, Cri, Crm}
 use Rattle.model.specs.declared.event.Event.{Event}
-use Rattle.model.specs.declared.event.Event.TheVariants as event
 use Rattle.model.specs.declared.event.Event.TheVariants.{Made, Int}
 use Rattle.model.specs.declared.quantity.Access.TheVariants as Access
-use Rattle.reason.specs.ReasonClaims.{FirstCondition, FirstHolding, NoneAtDone, NoneAtEarlyDone, OnlyRegisters, register_line}
+use Rattle.reason.specs.ReasonClaims.{FirstCondition, FirstHolding, NoneAtDone, OnlyRegisters, register_line}
 use Rattle.reason.specs.Reasons.{Reason, cause_of, denied_by, fields_of, is_denial, reason_for, reason_of}
 use Rattle.reason.specs.declared.Cause.{Cause}
 use Rattle.reason.specs.declared.Cause.TheVariants as cause
@@ -124,10 +123,7 @@ only-registers s (parsed.Event e) h = by-event e h (nine-among s e (watched-nine
     by-event (Made v mode Caps) h n = n
     by-event (Made v mode (Cri word)) h n = n
     by-event (Made v mode (Crm n' mask)) h n = n
-    by-event (Made v mode (Vina word)) h n = n
-    by-event (Made v mode Vclear) h n = n
     by-event (Int w g vector) h n = n
-    by-event (event.Host p k) h n = n
 
 -- A line has no reason exactly where it is done.
 no_name : {A : Type 0} {field : List ℕ} {more : List (List ℕ)} → field ∷ more ≡ [] → A
@@ -160,6 +156,3 @@ none-for c (Intercept l) = (λ h. absurd (denied-fields c reason.RegisterWatched
 
 pub none-at-done : NoneAtDone
 none-at-done s said = none-for (cause_of s (asked_by said)) (answered s said).answer
-
-pub none-at-early-done : NoneAtEarlyDone
-none-at-early-done s said = none-for (cause_of s (asked_by said)) (early_answered s said).answer

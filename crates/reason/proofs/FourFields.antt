@@ -1,24 +1,24 @@
 -- The first four fields of the listing with reasons are the listing, byte for byte. Assumes nothing.
-use mathlib.Core.Bool.{Bool, true, false, cond}
+use mathlib.Core.Bool.{true}
 use mathlib.Core.List.{List, [], ◌∷◌, ◌++◌, append_assoc, append-nil, map}
 use mathlib.Core.Option.{Option, none, some}
 use mathlib.Core.Path.{◌≡◌, refl, sym, ap, ◌∙◌}
 use Prim.Native.Nat.{ℕ}
 use lib.ListN.{take}
 use Rattle.decimal.specs.Write.{decimal}
-use Rattle.listing.specs.Listing.{answered, early_answered, early_records, first_done, later_records, listing, listing_from, listing_of, number_after, record_of, state_by}
+use Rattle.listing.specs.Listing.{answered, first_done, later_records, listing, listing_from, listing_of, number_after, record_of, state_by}
 use Rattle.model.specs.Answers.{number_of, value_of}
 use Rattle.model.specs.State.{State}
 use Rattle.reason.specs.ReasonClaims.{BareLine, ListingKept}
-use Rattle.reason.specs.ReasonedListing.{cut_to_four, early_reasoned, first_four, first_reason, later_reasoned, reasoned, reasoned_from, reasoned_of}
-use Rattle.reason.specs.Reasons.{Reason, early_reason_of, early_reasoned_record, fields_of, reason_of, reasoned_line}
+use Rattle.reason.specs.ReasonedListing.{cut_to_four, first_four, first_reason, later_reasoned, reasoned, reasoned_from, reasoned_of}
+use Rattle.reason.specs.Reasons.{Reason, fields_of, reason_of, reasoned_line}
 use Rattle.reason.specs.declared.Reason.TheVariants as reason
 use Rattle.reason.proofs.PlainFields.{no-feeds-together, no-tabs, plain, plain-fields, plain-number}
 use Rattle.records.proofs.SameBytes.{NoFeeds, lines-ended, no_feed}
 use Rattle.records.specs.RecordTexts.{ended}
 use Rattle.script.proofs.Parted.{fields-together, no-tab-number}
 use Rattle.script.proofs.Same.{every}
-use Rattle.script.specs.EventForms.{is_host_line, line_event}
+use Rattle.script.specs.EventForms.{line_event}
 use Rattle.script.specs.First.{line_first}
 use Rattle.script.specs.LineForms.{tab}
 use Rattle.script.specs.ListingLine.{cell, line_feed, listing_line}
@@ -90,38 +90,10 @@ later-four number s (line ∷ more) =
     four-then number (number_of a.answer) (value_of a.answer) a.level (reason_of s (line_event line)) (map first_four (later_reasoned (number_after number) a.next more))
     ∙ ap (λ (l : List ℕ). record_of number a ++ l) (later-four (number_after number) a.next more)
 
--- The same while host lines are not late.
-early-no-feeds : (number : ℕ) (s : State) (ls : List (List ℕ)) → NoFeeds (early_reasoned number s ls)
-unfolding early_reasoned
-early-no-feeds number s [] = tt
-early-no-feeds number s (line ∷ more) = go (is_host_line line) (early-no-feeds (number_after number) (early_answered s (line_event line)).next more)
-  where
-    go : (b : Bool) → NoFeeds (early_reasoned (number_after number) (early_answered s (line_event line)).next more)
-        → NoFeeds (cond b (early_reasoned_record number s (line_event line) ∷ early_reasoned (number_after number) (early_answered s (line_event line)).next more) (later_reasoned number s (line ∷ more)))
-    go true ih =
-        let a = early_answered s (line_event line) in
-        (no-feed number (number_of a.answer) (value_of a.answer) a.level (early_reason_of s (line_event line)), ih)
-    go false ih = later-no-feeds number s (line ∷ more)
-
-early-four : (number : ℕ) (s : State) (ls : List (List ℕ)) → ended (map first_four (early_reasoned number s ls)) ≡ early_records number s ls
-unfolding early_reasoned early_records ended
-early-four number s [] = refl
-early-four number s (line ∷ more) = go (is_host_line line) (early-four (number_after number) (early_answered s (line_event line)).next more)
-  where
-    go : (b : Bool)
-        → ended (map first_four (early_reasoned (number_after number) (early_answered s (line_event line)).next more)) ≡ early_records (number_after number) (early_answered s (line_event line)).next more
-        → ended (map first_four (cond b (early_reasoned_record number s (line_event line) ∷ early_reasoned (number_after number) (early_answered s (line_event line)).next more) (later_reasoned number s (line ∷ more))))
-        ≡ cond b (record_of number (early_answered s (line_event line)) ++ early_records (number_after number) (early_answered s (line_event line)).next more) (later_records number s (line ∷ more))
-    go true ih =
-        let a = early_answered s (line_event line) in
-        four-then number (number_of a.answer) (value_of a.answer) a.level (early_reason_of s (line_event line)) (map first_four (early_reasoned (number_after number) a.next more))
-        ∙ ap (λ (l : List ℕ). record_of number a ++ l) ih
-    go false ih = later-four number s (line ∷ more)
-
 -- All lines.
 from-no-feeds : (o : Option State) (why : Reason) (more : List (List ℕ)) → NoFeeds (reasoned_from o why more)
 from-no-feeds none why more = (no-feed 0 1 0 0 why, tt)
-from-no-feeds (some s) why more = (no-feed 0 0 0 0 reason.Nothing, early-no-feeds 1 s more)
+from-no-feeds (some s) why more = (no-feed 0 0 0 0 reason.Nothing, later-no-feeds 1 s more)
 
 of-no-feeds : (ls : List (List ℕ)) → NoFeeds (reasoned_of ls)
 of-no-feeds [] = (no-feed 0 1 0 0 reason.EmptyInput, tt)
@@ -130,7 +102,7 @@ of-no-feeds (line ∷ more) = from-no-feeds (state_by (line_first line)) (first_
 from-four : (o : Option State) (why : Reason) (more : List (List ℕ)) → ended (map first_four (reasoned_from o why more)) ≡ listing_from o more
 from-four none why more = four-last 0 1 0 0 why
 from-four (some s) why more =
-    four-then 0 0 0 0 reason.Nothing (map first_four (early_reasoned 1 s more)) ∙ ap (λ (l : List ℕ). first_done ++ l) (early-four 1 s more)
+    four-then 0 0 0 0 reason.Nothing (map first_four (later_reasoned 1 s more)) ∙ ap (λ (l : List ℕ). first_done ++ l) (later-four 1 s more)
 
 of_four : (ls : List (List ℕ)) → ended (map first_four (reasoned_of ls)) ≡ listing_of ls
 of_four [] = four-last 0 1 0 0 reason.EmptyInput

@@ -1,7 +1,7 @@
 -- What is proved of the reasons, for every state, line and script. Assumes nothing.
 use Rattle.std.specs.Prelude.{Bool, true, false, List, [], ◌∷◌, ◌++◌, ◌↔◌, ◌≡◌, ℕ, ◌≤◌, length}
 use Rattle.std.proofs.Math.Option.{some}
-use Rattle.listing.specs.Listing.{Answered, answered, early_answered, listing, record_of}
+use Rattle.listing.specs.Listing.{Answered, answered, listing, record_of}
 use Rattle.model.specs.Answers.{number_of}
 use Rattle.model.specs.Claims.{conditions}
 use Rattle.model.specs.State.{State}
@@ -9,12 +9,12 @@ use Rattle.model.specs.Step.{step}
 use Rattle.model.specs.declared.answer.Answer.{Answer}
 use Rattle.model.specs.declared.answer.Refusal.{Refusal}
 use Rattle.model.specs.declared.event.Action.{Action}
-use Rattle.model.specs.declared.event.Action.TheVariants.{Enpart, Envp, Call, Ret, Read, Write, Fetch, Protect, Config, Secure, Flush, Rreg, Wreg, Tpr, Ack, Pstat, Vstat, Caps, Cri, Crm, Vina, Vclear}
+use Rattle.model.specs.declared.event.Action.TheVariants.{Enpart, Envp, Call, Ret, Read, Write, Fetch, Protect, Config, Secure, Flush, Rreg, Wreg, Tpr, Ack, Pstat, Vstat, Caps, Cri, Crm}
 use Rattle.model.specs.declared.event.Event.{Event}
-use Rattle.model.specs.declared.event.Event.TheVariants.{Made, Int, Host}
+use Rattle.model.specs.declared.event.Event.TheVariants.{Made, Int}
 use Rattle.reason.specs.ReasonNames.{named_among, reason_name, refusals}
 use Rattle.reason.specs.ReasonedListing.{cut_to_four, reasoned}
-use Rattle.reason.specs.Reasons.{Reason, early_reason_of, fields_of, line_with, longest_reasoned, reason_fields, reason_of, reasoned_text}
+use Rattle.reason.specs.Reasons.{Reason, line_with, longest_reasoned, reason_fields, reason_of, reasoned_text}
 use Rattle.reason.specs.declared.Reason.TheVariants as reason
 use Rattle.records.specs.RecordTexts.{ended}
 use Rattle.script.specs.declared.Parsed.{Parsed}
@@ -65,14 +65,11 @@ of_register Vstat = false
 of_register Caps = false
 of_register (Cri word) = false
 of_register (Crm n mask) = false
-of_register (Vina word) = false
-of_register Vclear = false
 
 abbrev pub register_line : Parsed → Bool
 register_line (parsed.Malformed r) = false
 register_line (parsed.Event (Made v mode a)) = of_register a
 register_line (parsed.Event (Int w g n)) = false
-register_line (parsed.Event (Host p k)) = false
 
 -- Only such a line is told that the register is watched (02, request 6).
 abbrev pub OnlyRegisters : Type 0
@@ -81,9 +78,6 @@ OnlyRegisters = (s : State) (said : Parsed) → reason_of s said ≡ reason.Regi
 -- A line has no reason exactly at 0.
 abbrev pub NoneAtDone : Type 0
 NoneAtDone = (s : State) (said : Parsed) → (reason_fields s said ≡ []) ↔ (number_of (answered s said).answer ≡ 0)
-
-abbrev pub NoneAtEarlyDone : Type 0
-NoneAtEarlyDone = (s : State) (said : Parsed) → (fields_of (early_reason_of s said) ≡ []) ↔ (number_of (early_answered s said).answer ≡ 0)
 
 -- Without a reason the line is the listing's.
 abbrev pub BareLine : Type 0

@@ -28,7 +28,6 @@ reason_name refusal.InvalidMask = bytes "mask-invalid"
 reason_name refusal.ReservedBits = bytes "reserved-bit-set"
 reason_name refusal.Cr0InRealMode = bytes "cr0-bit-0-clear"
 reason_name refusal.NoSuchMask = bytes "mask-not-cr0-or-cr4"
-reason_name refusal.VinaVectorTooLow = bytes "vina-vector-below-16"
 -- 2
 reason_name refusal.UserMode = bytes "user-mode"
 reason_name refusal.CallInRealMode = bytes "call-in-real-mode"
@@ -46,8 +45,6 @@ reason_name refusal.TargetAbove = bytes "target-above-actor"
 reason_name refusal.TargetNotBelow = bytes "target-not-below-actor"
 reason_name refusal.ProtectAtLevelZero = bytes "protect-at-level-0"
 reason_name refusal.WatchAtLevelZero = bytes "watch-at-level-0"
-reason_name refusal.VinaAtLevelZero = bytes "vina-at-level-0"
-reason_name refusal.HostLate = bytes "host-late"
 -- 5
 reason_name refusal.EnabledForPartition = bytes "enabled-for-partition"
 reason_name refusal.EnabledOnProcessor = bytes "enabled-on-processor"
@@ -77,9 +74,9 @@ refusals =
     refusal.NoSuchProcessor ∷ refusal.NoSuchTarget ∷ refusal.NoSuchMode ∷ refusal.LevelOutOfRange ∷
     refusal.MbecOutOfRange ∷ refusal.LengthOutOfRange ∷ refusal.ClassOutOfRange ∷ refusal.VectorOutOfRange ∷
     refusal.NoSuchRegister ∷ refusal.NoSuchPage ∷ refusal.InvalidMask ∷ refusal.ReservedBits ∷ refusal.Cr0InRealMode ∷
-    refusal.NoSuchMask ∷ refusal.VinaVectorTooLow ∷ refusal.UserMode ∷ refusal.CallInRealMode ∷ refusal.RcxNotZero ∷ refusal.NoHigherLevel ∷ refusal.ReturnAtLevelZero ∷
+    refusal.NoSuchMask ∷ refusal.UserMode ∷ refusal.CallInRealMode ∷ refusal.RcxNotZero ∷ refusal.NoHigherLevel ∷ refusal.ReturnAtLevelZero ∷
     refusal.RcxAboveOne ∷ refusal.LevelZero ∷ refusal.AboveMaximum ∷ refusal.TargetNotAbove ∷ refusal.TargetGuarded ∷ refusal.TargetAbove ∷
-    refusal.TargetNotBelow ∷ refusal.ProtectAtLevelZero ∷ refusal.WatchAtLevelZero ∷ refusal.VinaAtLevelZero ∷ refusal.HostLate ∷ refusal.EnabledForPartition ∷ refusal.EnabledOnProcessor ∷
+    refusal.TargetNotBelow ∷ refusal.ProtectAtLevelZero ∷ refusal.WatchAtLevelZero ∷ refusal.EnabledForPartition ∷ refusal.EnabledOnProcessor ∷
     refusal.NotEnabledForPartition ∷ refusal.NotEnabledOnProcessor ∷ refusal.ProtectionsOff ∷ refusal.NoMbec ∷
     refusal.ProtectionsCleared ∷ refusal.DefaultMaskChanged ∷ refusal.KernelOnlyExecute ∷ refusal.NoReceiver ∷
     refusal.HostDenies ∷ refusal.TlbLocked ∷ refusal.NoReadyVector ∷ refusal.InterruptFlagClear ∷ []

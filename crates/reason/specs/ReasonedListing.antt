@@ -2,13 +2,13 @@
 -- Assumes nothing.
 use Rattle.std.specs.Prelude.{cond, List, [], ◌∷◌, map, ℕ, take}
 use Rattle.std.proofs.Math.Option.{Option, none, some}
-use Rattle.listing.specs.Listing.{answered, early_answered, number_after, state_by}
+use Rattle.listing.specs.Listing.{answered, number_after, state_by}
 use Rattle.model.specs.Fresh.{admissible}
 use Rattle.model.specs.State.{State}
-use Rattle.reason.specs.Reasons.{Reason, early_reasoned_record, reasoned_line, reasoned_record}
+use Rattle.reason.specs.Reasons.{Reason, reasoned_line, reasoned_record}
 use Rattle.reason.specs.declared.Reason.TheVariants as reason
 use Rattle.records.specs.RecordTexts.{ended}
-use Rattle.script.specs.EventForms.{is_host_line, line_event}
+use Rattle.script.specs.EventForms.{line_event}
 use Rattle.script.specs.First.{line_first}
 use Rattle.script.specs.LineForms.{fields}
 use Rattle.script.specs.Records.{lines}
@@ -21,14 +21,6 @@ unfoldable pub later_reasoned : ℕ → State → List (List ℕ) → List (List
 later_reasoned number s [] = []
 later_reasoned number s (line ∷ more) =
     reasoned_record number s (line_event line) ∷ later_reasoned (number_after number) (answered s (line_event line)).next more
-
--- The same while the time for host lines is open: the first line that has another first field ends it (02, request 7).
-unfoldable pub early_reasoned : ℕ → State → List (List ℕ) → List (List ℕ)
-early_reasoned number s [] = []
-early_reasoned number s (line ∷ more) =
-    cond (is_host_line line)
-    (early_reasoned_record number s (line_event line) ∷ early_reasoned (number_after number) (early_answered s (line_event line)).next more)
-    (later_reasoned number s (line ∷ more))
 
 -- Why a first line is refused: what is wrong with its form, or a number that is not admissible.
 abbrev pub first_reason : Start → Reason
@@ -45,7 +37,7 @@ reasoned_refused why = reasoned_line 0 1 0 0 why
 -- After a refused first line the program stops.
 abbrev pub reasoned_from : Option State → Reason → List (List ℕ) → List (List ℕ)
 reasoned_from none why more = reasoned_refused why ∷ []
-reasoned_from (some s) why more = reasoned_done ∷ early_reasoned 1 s more
+reasoned_from (some s) why more = reasoned_done ∷ later_reasoned 1 s more
 
 abbrev pub reasoned_of : List (List ℕ) → List (List ℕ)
 reasoned_of [] = reasoned_refused reason.EmptyInput ∷ []

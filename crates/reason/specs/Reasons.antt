@@ -6,7 +6,7 @@ use Rattle.asked.specs.declared.Asked.{Asked}
 use Rattle.asked.specs.declared.Asked.TheVariants as asked
 use Rattle.decimal.specs.Write.{decimal}
 use Rattle.explanation.specs.Explained.{explanation_of}
-use Rattle.listing.specs.Listing.{Answered, answered, early_answered}
+use Rattle.listing.specs.Listing.{Answered, answered}
 use Rattle.model.specs.Answers.{number_of, refusal_number, value_of}
 use Rattle.model.specs.State.{State}
 use Rattle.model.specs.Step.{mode_of}
@@ -49,10 +49,6 @@ reason_for c (Intercept l) = denied_by c reason.RegisterWatched
 abbrev pub reason_of : State → Parsed → Reason
 reason_of s said = reason_for (cause_of s (asked_by said)) (answered s said).answer
 
--- The same of a line that comes while host lines are not late (02, request 7).
-abbrev pub early_reason_of : State → Parsed → Reason
-early_reason_of s said = reason_for (cause_of s (asked_by said)) (early_answered s said).answer
-
 -- The fields of a reason: a name, or the fields of the sheet.
 unfoldable pub fields_of : Reason → List (List ℕ)
 fields_of reason.Nothing = []
@@ -91,6 +87,3 @@ line_with number a reason = reasoned_line number (number_of a.answer) (value_of 
 -- The line of what a later line says.
 abbrev pub reasoned_record : ℕ → State → Parsed → List ℕ
 reasoned_record number s said = line_with number (answered s said) (reason_of s said)
-
-abbrev pub early_reasoned_record : ℕ → State → Parsed → List ℕ
-early_reasoned_record number s said = line_with number (early_answered s said) (early_reason_of s said)

@@ -6,7 +6,7 @@ use native.Mathlib.Nat.{sub-zero}
 use lib.Seq.{take-append-add}
 use Rattle.chunk.proofs.ChunkLines.{end-within, joined, lines_from, lines-joined, lines-last, with_line}
 use Rattle.chunk.specs.Chunk.{line_end}
-use Rattle.listing.specs.Listing.{answered, early_answered, number_after, state_by}
+use Rattle.listing.specs.Listing.{answered, number_after, state_by}
 use Rattle.model.specs.State.{State}
 use Rattle.reason.proofs.PlainFields.{short-reasoned}
 use Rattle.reason.specs.ReasonedListing.{first_reason}
@@ -17,12 +17,11 @@ use Rattle.model.specs.Answers.{refusal_number}
 use Rattle.model.specs.State.{level}
 use Rattle.model.specs.declared.answer.Answer.TheVariants.{Refused}
 use Rattle.model.specs.declared.answer.Refusal.{Refusal}
-use Rattle.reason.specs.Reasons.{cause_of, early_reasoned_record, reason_for, reasoned_record, reasoned_text}
+use Rattle.reason.specs.Reasons.{cause_of, reason_for, reasoned_record, reasoned_text}
 use Rattle.reason.specs.declared.Reason.TheVariants as reason
 use Rattle.reason.specs.declared.Reason.{Reason}
 use Rattle.records.specs.RecordTexts.{ended as with_feeds}
-use Rattle.script.proofs.Naming.{host-taken}
-use Rattle.script.specs.EventForms.{events, is_host_line, line_event}
+use Rattle.script.specs.EventForms.{events, line_event}
 use Rattle.script.specs.First.{first_form, line_first}
 use Rattle.script.specs.LineForms.{fields}
 use Rattle.script.specs.ListingLine.{line_feed}
@@ -33,7 +32,7 @@ use Rattle.script.specs.declared.Start.{Start}
 use Rattle.script.specs.declared.Start.TheVariants as start
 use Rattle.session.proofs.Ending.{said-kept}
 use Rattle.session.proofs.WholeListing.{Plain, kept-twice, line-ended, lines-plain}
-use Rattle.session.specs.Session.{Bounds, Progress, begun, consumed, consumed_lines, continued, continued_early, early, ended, extended, first, is_stopped, kept, last_ended, later, progress_in, stopped}
+use Rattle.session.specs.Session.{Bounds, Progress, begun, consumed, consumed_lines, ended, extended, first, is_stopped, kept, last_ended, later, progress_in, stopped}
 use Rattle.session.specs.declared.Phase.{Phase}
 use Rattle.session.specs.declared.Phase.TheVariants as phase
 use Rattle.reasoned.specs.ReasonedSession.{first_text, last_told, line_text, line_used, told, told_lines}
@@ -43,10 +42,6 @@ pub text-kept : (p : Progress) → line_text (kept p) ≡ line_text p
 unfolding line_text line_event line_first
 text-kept (first line) =
     ap (λ (x : Start). first_text (state_by x) (first_reason x)) (said-kept start.First start.Malformed (λ l. first_form (eqb (length (fields l)) 7) ∷ []) line)
-text-kept (early number s line) =
-    let said = said-kept parsed.Event parsed.Malformed (λ l. events) line in
-    let field : is_host_line (take 257 line) ≡ is_host_line line = host-taken 257 line (omega arith) in
-    λ i. with_feeds (cond (field i) (early_reasoned_record number s (said i)) (reasoned_record number s (said i)) ∷ [])
 text-kept (later number s line) =
     ap (λ (x : Parsed). with_feeds (reasoned_record number s x ∷ [])) (said-kept parsed.Event parsed.Malformed (λ l. events) line)
 text-kept stopped = refl
@@ -63,12 +58,6 @@ nothing-held (first line) = go (state_by (line_first line))
     go : (o : Option State) → kept (extended (begun o).progress []) ≡ (begun o).progress
     go none = refl
     go (some s) = refl
-nothing-held (early number s line) = go (is_host_line line)
-  where
-    go : (b : Bool) → let e = cond b (continued_early number (early_answered s (line_event line))) (continued number (answered s (line_event line))) in
-        kept (extended e.progress []) ≡ e.progress
-    go true = refl
-    go false = refl
 nothing-held (later number s line) = refl
 nothing-held stopped = refl
 
@@ -80,11 +69,6 @@ first_short (some s) why = short-reasoned 0 0 0 0 _
 pub text-short : (p : Progress) → length (line_text p) ≤ 255
 unfolding line_text
 text-short (first line) = first_short (state_by (line_first line)) (first_reason (line_first line))
-text-short (early number s line) = go (is_host_line line)
-  where
-    go : (b : Bool) → length (with_feeds (cond b (early_reasoned_record number s (line_event line)) (reasoned_record number s (line_event line)) ∷ [])) ≤ 255
-    go true = short-reasoned number _ _ _ _
-    go false = short-reasoned number _ _ _ _
 text-short (later number s line) = short-reasoned number _ _ _ _
 text-short stopped = omega arith
 
@@ -169,22 +153,6 @@ pub later-text : (number : ℕ) (s : State) (line : List ℕ) (said : Parsed) (s
 unfolding line_text
 later-text number s line said shown why e h k = rw (h, k, e)
 
--- A host line that comes early, and the line that ends the time for them.
-pub early-progress : (number : ℕ) (s next : State) (line : List ℕ) → is_host_line line ≡ true → next ≡ (early_answered s (line_event line)).next
-    → early (number_after number) next [] ≡ (ended (early number s line)).progress
-unfolding ended
-early-progress number s next line h e = rw (h, e)
-
-pub early-text : (number : ℕ) (s : State) (line : List ℕ) (said : Parsed) (shown : Shown) (why : Reason) → is_host_line line ≡ true → said ≡ line_event line
-    → shown ≡ shown_by (early_answered s said) → why ≡ reason_for (cause_of s (asked_by said)) (early_answered s said).answer
-    → reasoned_text number shown.answer shown.value shown.level.0 why ≡ line_text (early number s line)
-unfolding line_text
-early-text number s line said shown why f e h k = rw (h, k, e, f)
-
-pub late-text : (number : ℕ) (s : State) (line : List ℕ) → is_host_line line ≡ false → line_text (early number s line) ≡ line_text (later number s line)
-unfolding line_text
-late-text number s line h = rw h
-
 pub shown-malformed : (s : State) (r : Refusal) → shown_of (Refused r) (level 0) ≡ shown_by (answered s (parsed.Malformed r))
 shown-malformed s r = go (eqb (refusal_number r) 1)
   where
@@ -202,8 +170,6 @@ pub last_line : (p : Phase) (number : ℕ) (s : State) (line : List ℕ) → (le
 unfolding line_text
 last_line phase.First number s [] h = absurd (h refl)
 last_line phase.First number s (byte ∷ line) h = refl
-last_line phase.Early number s [] h = absurd (h refl)
-last_line phase.Early number s (byte ∷ line) h = refl
 last_line phase.Later number s [] h = absurd (h refl)
 last_line phase.Later number s (byte ∷ line) h = refl
 last_line phase.Stopped number s line h = refl

@@ -1,19 +1,18 @@
 -- However a script is cut into chunks, what is written of them is its listing with reasons. Assumes nothing.
-use Rattle.std.proofs.Common.{◌≡◌, ℕ, Bool, true, false, cond, List, [], ◌∷◌, ◌++◌, sym, refl, ap, ◌∙◌, append_assoc, append-nil}
+use Rattle.std.proofs.Common.{◌≡◌, ℕ, List, [], ◌∷◌, ◌++◌, sym, refl, ap, ◌∙◌, append_assoc, append-nil}
 use mathlib.Core.Option.{Option, none, some}
 use Rattle.chunk.proofs.ChunkLines.{joined as lines_joined, lines-joined}
-use Rattle.listing.specs.Listing.{answered, early_answered, number_after, state_by}
+use Rattle.listing.specs.Listing.{answered, number_after, state_by}
 use Rattle.model.specs.State.{State}
-use Rattle.reason.specs.ReasonedListing.{early_reasoned, first_reason, later_reasoned, reasoned, reasoned_done, reasoned_from, reasoned_of, reasoned_refused}
-use Rattle.reason.specs.Reasons.{early_reasoned_record, reasoned_record}
+use Rattle.reason.specs.ReasonedListing.{first_reason, later_reasoned, reasoned, reasoned_done, reasoned_from, reasoned_of, reasoned_refused}
+use Rattle.reason.specs.Reasons.{reasoned_record}
 use Rattle.records.specs.RecordTexts.{ended as with_feeds}
-use Rattle.script.specs.EventForms.{is_host_line, line_event}
+use Rattle.script.specs.EventForms.{line_event}
 use Rattle.script.specs.First.{line_first}
 use Rattle.script.specs.ListingLine.{line_feed}
 use Rattle.script.specs.Records.{last_line, lines, lines_in}
-use Rattle.script.specs.declared.Parsed.{Parsed}
 use Rattle.session.proofs.WholeListing.{Plain, Plains, consumed-continued, continued_by, ended-twice, extended_none, line-continued, line-ended, lines-plain}
-use Rattle.session.specs.Session.{Ended, Progress, begun, consumed, consumed_lines, continued, continued_early, early, ended, extended, first, kept, later, stopped}
+use Rattle.session.specs.Session.{Ended, Progress, begun, consumed, consumed_lines, ended, extended, first, kept, later, stopped}
 use Rattle.reasoned.specs.ReasonedCuts.{CutInTwo, ReasonedWhole, ToldWhole, joined, told_all}
 use Rattle.reasoned.specs.ReasonedSession.{first_text, last_told, line_text, told, told_lines}
 use Rattle.reasoned.proofs.ReasonedLines.{text-kept, text-twice}
@@ -52,8 +51,6 @@ cut-in-two p one two =
 last-kept : (p : Progress) → last_told (kept p) ≡ last_told p
 last-kept (first []) = refl
 last-kept (first (byte ∷ line)) = text-kept (first (byte ∷ line))
-last-kept (early number s []) = refl
-last-kept (early number s (byte ∷ line)) = text-kept (early number s (byte ∷ line))
 last-kept (later number s []) = refl
 last-kept (later number s (byte ∷ line)) = text-kept (later number s (byte ∷ line))
 last-kept stopped = refl
@@ -74,40 +71,6 @@ later-whole (line ∷ ls) rest number s =
     ∙ ap (λ (l : List ℕ). (record_of ++ line_feed ∷ []) ++ l) (later-whole ls rest (number_after number) a.next)
     ∙ append_assoc record_of (line_feed ∷ []) _
 
--- The same while host lines are not late.
-early-whole : (ls : List (List ℕ)) (rest : List ℕ) (number : ℕ) (s : State)
-    → told_lines (early number s []) ls ++ last_told (consumed_lines (early number s []) ls rest).progress ≡ with_feeds (early_reasoned number s (ls ++ last_line rest))
-unfolding told_lines consumed_lines later_reasoned early_reasoned ended line_text with_feeds
-early-whole [] [] number s = refl
-early-whole [] (byte ∷ rest) number s = last_of (early number s []) (byte ∷ rest) ∙ go (is_host_line (byte ∷ rest))
-  where
-    said : Parsed
-    said = line_event (byte ∷ rest)
-
-    go : (b : Bool) → with_feeds (cond b (early_reasoned_record number s said) (reasoned_record number s said) ∷ [])
-        ≡ with_feeds (cond b (early_reasoned_record number s said ∷ []) (reasoned_record number s said ∷ []))
-    go true = refl
-    go false = refl
-early-whole (line ∷ ls) rest number s = go (is_host_line line) (early-whole ls rest (number_after number) (early_answered s (line_event line)).next)
-  where
-    said : Parsed
-    said = line_event line
-
-    go : (b : Bool)
-        → told_lines (early (number_after number) (early_answered s said).next []) ls ++ last_told (consumed_lines (early (number_after number) (early_answered s said).next []) ls rest).progress
-        ≡ with_feeds (early_reasoned (number_after number) (early_answered s said).next (ls ++ last_line rest))
-        → let e = cond b (continued_early number (early_answered s said)) (continued number (answered s said)) in
-        (with_feeds (cond b (early_reasoned_record number s said) (reasoned_record number s said) ∷ []) ++ told_lines e.progress ls)
-        ++ last_told (consumed_lines e.progress ls rest).progress
-        ≡ with_feeds (cond b (early_reasoned_record number s said ∷ early_reasoned (number_after number) (early_answered s said).next (ls ++ last_line rest)) (later_reasoned number s (line ∷ ls ++ last_line rest)))
-    go true ih =
-        let a = early_answered s said in
-        let record_of = early_reasoned_record number s said in
-        append_assoc (record_of ++ line_feed ∷ []) (told_lines (early (number_after number) a.next []) ls) _
-        ∙ ap (λ (l : List ℕ). (record_of ++ line_feed ∷ []) ++ l) ih
-        ∙ append_assoc record_of (line_feed ∷ []) _
-    go false ih = later-whole (line ∷ ls) rest number s
-
 stopped-whole : (ls : List (List ℕ)) (rest : List ℕ) → told_lines stopped ls ++ last_told (consumed_lines stopped ls rest).progress ≡ []
 unfolding told_lines consumed_lines ended line_text
 stopped-whole [] rest = refl
@@ -122,7 +85,7 @@ first-whole [] (byte ∷ rest) = last_of (first []) (byte ∷ rest) ∙ go (stat
   where
     go : (o : Option State) → first_text o (first_reason (line_first (byte ∷ rest))) ≡ with_feeds (reasoned_from o (first_reason (line_first (byte ∷ rest))) [])
     go none = refl
-    go (some s) = unfold with_feeds in (unfold early_reasoned in refl)
+    go (some s) = unfold with_feeds in (unfold later_reasoned in refl)
 first-whole (line ∷ ls) rest = go (state_by (line_first line))
   where
     go : (o : Option State)
@@ -133,8 +96,8 @@ first-whole (line ∷ ls) rest = go (state_by (line_first line))
         ∙ ap (λ (l : List ℕ). with_feeds (reasoned_refused (first_reason (line_first line)) ∷ []) ++ l) (stopped-whole ls rest)
         ∙ append-nil (with_feeds (reasoned_refused (first_reason (line_first line)) ∷ []))
     go (some s) =
-        append_assoc (with_feeds (reasoned_done ∷ [])) (told_lines (early 1 s []) ls) _
-        ∙ ap (λ (l : List ℕ). with_feeds (reasoned_done ∷ []) ++ l) (early-whole ls rest 1 s)
+        append_assoc (with_feeds (reasoned_done ∷ [])) (told_lines (later 1 s []) ls) _
+        ∙ ap (λ (l : List ℕ). with_feeds (reasoned_done ∷ []) ++ l) (later-whole ls rest 1 s)
         ∙ (unfold with_feeds in (append_assoc reasoned_done (line_feed ∷ []) _))
 
 pub told-whole : ToldWhole

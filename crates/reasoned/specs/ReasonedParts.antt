@@ -2,20 +2,21 @@
 use Rattle.std.specs.Prelude.{◌≡◌, ℕ, ◌≤◌, List, length}
 use Rattle.std.proofs.lemmas.List.Edits.{sets}
 use Rattle.listing.specs.Answer.{shown_by}
-use Rattle.listing.specs.Listing.{Answered}
+use Rattle.listing.specs.Listing.{answered}
 use Rattle.model.specs.State.{State}
 use Rattle.reason.specs.Reasons.{reason_for}
 use Rattle.reason.specs.declared.Cause.{Cause}
+use Rattle.script.specs.declared.Parsed.{Parsed}
 use Rattle.session.specs.Session.{Progress, ended, progress_of}
 use Rattle.session.specs.declared.Written.{Written}
 use Rattle.reasoned.specs.ReasonedSession.{line_text}
 use Rattle.reasoned.specs.declared.line_reason.Told.{Told}
 
 -- A line was answered: the next state, what is shown, and the reason, where the cause of an access was asked before.
-pub record ToldBy (cause : Cause) (a : Answered) (r : Told) (after : State) : Type 0 where
-  pub next : after ≡ a.next
-  pub shown : r.shown ≡ shown_by a
-  pub why : r.why ≡ reason_for cause a.answer
+pub record ToldBy (cause : Cause) (said : Parsed) (r : Told) (before after : State) : Type 0 where
+  pub next : after ≡ (answered before said).next
+  pub shown : r.shown ≡ shown_by (answered before said)
+  pub why : r.why ≡ reason_for cause (answered before said).answer
 
 -- A line of a session was ended, and its text written at the start of a buffer.
 pub record EndedWith (p : Progress) (r : Written) (before after : List ℕ) : Type 0 where

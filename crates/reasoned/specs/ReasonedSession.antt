@@ -1,19 +1,19 @@
 -- What a session writes of a chunk with the reasons, and at the script's end. How far the session comes is what `consumed` of crate
 -- `session` says: only the text of each line is another. Assumes nothing.
-use Rattle.std.specs.Prelude.{ℕ, ◌+◌, min, cond, List, [], ◌∷◌, ◌++◌, length}
+use Rattle.std.specs.Prelude.{ℕ, ◌+◌, min, List, [], ◌∷◌, ◌++◌, length}
 use Rattle.std.proofs.Math.Option.{Option, none, some}
 use Rattle.chunk.specs.Chunk.{line_end}
 use Rattle.listing.specs.Listing.{state_by}
 use Rattle.model.specs.State.{State}
 use Rattle.reason.specs.ReasonedListing.{first_reason, reasoned_done, reasoned_refused}
-use Rattle.reason.specs.Reasons.{early_reasoned_record, reasoned_record}
+use Rattle.reason.specs.Reasons.{reasoned_record}
 use Rattle.reason.specs.declared.Reason.{Reason}
 use Rattle.reason.specs.declared.Reason.TheVariants as reason
 use Rattle.records.specs.RecordTexts.{ended as with_feeds}
-use Rattle.script.specs.EventForms.{is_host_line, line_event}
+use Rattle.script.specs.EventForms.{line_event}
 use Rattle.script.specs.First.{line_first}
 use Rattle.script.specs.Records.{lines_in}
-use Rattle.session.specs.Session.{Progress, early, ended, extended, first, later, stopped}
+use Rattle.session.specs.Session.{Progress, ended, extended, first, later, stopped}
 
 -- The text of the first line: refused for a reason, or done.
 abbrev pub first_text : Option State → Reason → List ℕ
@@ -23,8 +23,6 @@ first_text (some s) why = with_feeds (reasoned_done ∷ [])
 -- What the end of a line writes.
 unfoldable pub line_text : Progress → List ℕ
 line_text (first line) = first_text (state_by (line_first line)) (first_reason (line_first line))
-line_text (early number s line) =
-    with_feeds (cond (is_host_line line) (early_reasoned_record number s (line_event line)) (reasoned_record number s (line_event line)) ∷ [])
 line_text (later number s line) = with_feeds (reasoned_record number s (line_event line) ∷ [])
 line_text stopped = []
 
@@ -40,8 +38,6 @@ told p chunk = told_lines p (lines_in chunk).complete
 abbrev pub last_told : Progress → List ℕ
 last_told (first []) = with_feeds (reasoned_refused reason.EmptyInput ∷ [])
 last_told (first (byte ∷ line)) = line_text (first (byte ∷ line))
-last_told (early number s []) = []
-last_told (early number s (byte ∷ line)) = line_text (early number s (byte ∷ line))
 last_told (later number s []) = []
 last_told (later number s (byte ∷ line)) = line_text (later number s (byte ∷ line))
 last_told stopped = []

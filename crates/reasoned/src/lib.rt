@@ -1,25 +1,23 @@
 // A script that comes in chunks, and its listing with reasons. The session is that of crate `session`, and comes as far: here each line that
 // ends is written with its reason. One call ends one line at most, so a buffer for the longest line is always room. Every public function
 // takes any arguments.
-ghost use Rattle.std.specs.Prelude.{◌≡◌, ◌≤◌, true, [], length, take};
+ghost use Rattle.std.specs.Prelude.{◌≡◌, ◌≤◌, [], length, take};
 ghost use Rattle.std.proofs.lemmas.List.Edits.{sets};
 ghost use Rattle.chunk.specs.Chunk.{held};
 ghost use Rattle.reason.specs.ReasonedListing.{first_reason};
 ghost use Rattle.reason.specs.Reasons.{reasoned_text};
 ghost use Rattle.reasoned.specs.ReasonedParts.{EndedWith};
 ghost use Rattle.reasoned.specs.ReasonedSession.{last_told, line_used, told};
-ghost use Rattle.script.specs.EventForms.{is_host_line};
 ghost use Rattle.script.specs.First.{line_first};
-ghost use Rattle.session.specs.Session.{Bounds, consumed, early, first, later, progress_of, state_in};
+ghost use Rattle.session.specs.Session.{Bounds, consumed, first, later, progress_of, state_in};
 ghost use Rattle.session.specs.declared.Phase.TheVariants as phase_is;
 
-use line_reason::{tell, tell_host};
+use line_reason::tell;
 use listing::Shown;
 use model::quantity::Level;
 use reason::{LONGEST_REASONED, Reason, write_line};
 use script::Start;
 use session::{Fed, LONGEST_RECORD, Phase, Session, Written};
-use state::well_formed_state::well_formed;
 
 mod line_reason; // a later line, with its reason
 
@@ -96,46 +94,8 @@ fn end_later(start: Session, out: &mut [u8; LONGEST_REASONED]) -> Written
     let shown = told.shown;
     let why = told.why;
     let wrote = write_line(out, number, shown, why);
-    let session = session::after_line(Phase::Later, start, next, levels, masks, vps, words);
+    let session = session::after_line(start, next, levels, masks, vps, words);
     Written { session, wrote }
-}
-
-// Ends a host line that comes early (02, request 7).
-fn end_host(start: Session, out: &mut [u8; LONGEST_REASONED]) -> Written
-    requires { is_host_line (held start.line start.length) ≡ true }
-    ensures { EndedWith (early start.number (state_in start) (held start.line start.length)) result
-        out.old out.new }
-{
-    let line = start.line;
-    let number = start.number;
-    let next = std::num::wrapping_add_u64(number, 1);
-    let setup = start.setup;
-    let levels = start.levels;
-    let mut masks = start.masks;
-    let vps = session::records(start);
-    let words = start.words;
-    let lent = session::lent_words(&words, start.lent);
-    let formed = well_formed(setup, &levels, &masks, &vps, &words[..lent]);
-    let size = chunk::held_length(&line, start.length);
-    let told = tell_host(formed, setup, &mut masks, &line[..size]);
-    let shown = told.shown;
-    let why = told.why;
-    let wrote = write_line(out, number, shown, why);
-    let session = session::after_line(Phase::Early, start, next, levels, masks, vps, words);
-    Written { session, wrote }
-}
-
-// Ends a line while host lines are not late: the first line that has another first field is a later one.
-fn end_early(start: Session, out: &mut [u8; LONGEST_REASONED]) -> Written
-    ensures { EndedWith (early start.number (state_in start) (held start.line start.length)) result
-        out.old out.new }
-{
-    let line = start.line;
-    let size = chunk::held_length(&line, start.length);
-    if script::is_host_line(&line[..size]) {
-        return end_host(start, out);
-    }
-    end_later(start, out)
 }
 
 // Ends the line whose bytes the session holds.
@@ -145,7 +105,6 @@ fn end_line(start: Session, out: &mut [u8; LONGEST_REASONED]) -> Written
     let phase = start.phase;
     match phase {
         Phase::First => end_first(start, out),
-        Phase::Early => end_early(start, out),
         Phase::Later => end_later(start, out),
         Phase::Stopped => Written {
             session: start,
@@ -210,7 +169,6 @@ fn finish_empty(start: Session, out: &mut [u8; LONGEST_REASONED]) -> usize
     let phase = start.phase;
     match phase {
         Phase::First => write_first(out, 1, Reason::EmptyInput),
-        Phase::Early => 0,
         Phase::Later => 0,
         Phase::Stopped => 0,
     }

@@ -20,7 +20,7 @@ use Rattle.script.specs.LineForms.{tab}
 use Rattle.script.specs.ListingLine.{cell, line_feed}
 use Rattle.script.specs.Texts.{parted, first_line_of, first_text, written}
 use Rattle.records.specs.RecordClaims.{ShortText}
-use Rattle.records.specs.Places.{Place, PartitionEnabled, Mbec, Config, Active, Shared, Register, Tpr, Pending, Enabled, Secure, Reason, From, Rax, Rcx, Word, Mask, Intercepts, Cr0Mask, Cr4Mask, HostMask, VinaWord, Asserted, rising, private_count, shared_count, level_places, processor_places, upper_places, context_places, page_places, per_upper, cr_mask_places, of_levels, of_processors, of_contexts, of_pages, of_intercepts, of_cr_masks, of_host_masks, of_vina_words, of_asserted, places, has, end_rank, rank}
+use Rattle.records.specs.Places.{Place, PartitionEnabled, Mbec, Config, Active, Shared, Register, Tpr, Pending, Enabled, Secure, Reason, From, Rax, Rcx, Word, Mask, Intercepts, Cr0Mask, Cr4Mask, rising, private_count, shared_count, level_places, processor_places, upper_places, context_places, page_places, per_upper, cr_mask_places, of_levels, of_processors, of_contexts, of_pages, of_intercepts, of_cr_masks, places, has, end_rank, rank}
 use Rattle.records.specs.RecordTexts.{head_of, closed, front, record_line, first_of, lines_at, record_lines, ended, records_text}
 use Rattle.records.specs.Values.{setup_at, value_at}
 use Rattle.records.proofs.Limits.{limits}
@@ -128,24 +128,12 @@ module _ (c : Setup) (few : Small c) where
   cr-masks-count : length (of_cr_masks c) ≤ 24
   cr-masks-count = uppers-count cr_mask_places 2 (λ v t. omega arith)
 
-  host-masks-count : length (of_host_masks c) ≤ 64
-  host-masks-count = omega (arith, length-each (λ p. HostMask (page p)) 0 c.pages, few.pages)
-
-  vina-words-count : length (of_vina_words c) ≤ 12
-  vina-words-count = uppers-count (λ v t. VinaWord v t ∷ []) 1 (λ v t. omega arith)
-
-  asserted-count : length (of_asserted c) ≤ 12
-  asserted-count = uppers-count (λ v t. Asserted v t ∷ []) 1 (λ v t. omega arith)
-
-  -- A machine has at most 889 places.
-  places_count : length (places c) ≤ 889
+  -- A machine has at most 801 places.
+  places_count : length (places c) ≤ 801
   unfolding places
   places_count =
       omega (
         arith,
-        length-append (of_levels c ++ of_processors c ++ of_contexts c ++ of_pages c ++ of_intercepts c ++ of_cr_masks c ++ of_host_masks c ++ of_vina_words c) (of_asserted c),
-        length-append (of_levels c ++ of_processors c ++ of_contexts c ++ of_pages c ++ of_intercepts c ++ of_cr_masks c ++ of_host_masks c) (of_vina_words c),
-        length-append (of_levels c ++ of_processors c ++ of_contexts c ++ of_pages c ++ of_intercepts c ++ of_cr_masks c) (of_host_masks c),
         length-append (of_levels c ++ of_processors c ++ of_contexts c ++ of_pages c ++ of_intercepts c) (of_cr_masks c),
         length-append (of_levels c ++ of_processors c ++ of_contexts c ++ of_pages c) (of_intercepts c),
         length-append (of_levels c ++ of_processors c ++ of_contexts c) (of_pages c),
@@ -157,9 +145,6 @@ module _ (c : Setup) (few : Small c) where
         pages-count,
         intercepts-count,
         cr-masks-count,
-        host-masks-count,
-        vina-words-count,
-        asserted-count,
       )
 
   -- The indices of a place have at most two digits, and there are at most three.
@@ -194,12 +179,9 @@ module _ (c : Setup) (few : Small c) where
   low (Intercepts v l) h = let b = limits c (Intercepts v l) h in (omega arith, (omega arith, tt))
   low (Cr0Mask v l) h = let b = limits c (Cr0Mask v l) h in (omega arith, (omega arith, (omega arith, tt)))
   low (Cr4Mask v l) h = let b = limits c (Cr4Mask v l) h in (omega arith, (omega arith, (omega arith, tt)))
-  low (HostMask p) h = let b = limits c (HostMask p) h in (omega arith, tt)
-  low (VinaWord v l) h = let b = limits c (VinaWord v l) h in (omega arith, (omega arith, tt))
-  low (Asserted v l) h = let b = limits c (Asserted v l) h in (omega arith, (omega arith, tt))
 
-  -- A word has at most eight bytes.
-  head-length : (p : Place) → (length (head_of p).word ≤ 8) × (length (head_of p).indices ≤ 3)
+  -- A word has at most seven bytes.
+  head-length : (p : Place) → (length (head_of p).word ≤ 7) × (length (head_of p).indices ≤ 3)
   unfolding head_of
   head-length (PartitionEnabled t) = (omega arith, omega arith)
   head-length (Mbec t) = (omega arith, omega arith)
@@ -220,11 +202,8 @@ module _ (c : Setup) (few : Small c) where
   head-length (Intercepts v l) = (omega arith, omega arith)
   head-length (Cr0Mask v l) = (omega arith, omega arith)
   head-length (Cr4Mask v l) = (omega arith, omega arith)
-  head-length (HostMask p) = (omega arith, omega arith)
-  head-length (VinaWord v l) = (omega arith, omega arith)
-  head-length (Asserted v l) = (omega arith, omega arith)
 
-  record-length : (p : Place) (x : ℕ) → has c p ≡ true → length (record_line p x) ≤ 38
+  record-length : (p : Place) (x : ℕ) → has c p ≡ true → length (record_line p x) ≤ 37
   unfolding record_line front
   record-length p x h =
       let head = head_of p in
@@ -237,7 +216,7 @@ module _ (c : Setup) (few : Small c) where
         text-length x,
       )
 
-  records-length : (value : Place → ℕ) (ps : List Place) (lo hi : ℕ) → Run c lo ps hi → length (ended (lines_at value ps)) ≤ 39 * length ps
+  records-length : (value : Place → ℕ) (ps : List Place) (lo hi : ℕ) → Run c lo ps hi → length (ended (lines_at value ps)) ≤ 38 * length ps
   unfolding ended
   records-length value [] lo hi r = omega arith
   records-length value (p ∷ ps) lo hi (a, h, r) =

@@ -11,7 +11,7 @@ use Rattle.model.specs.declared.quantity.Level.{Level}
 use Rattle.model.specs.declared.quantity.Processor.{Processor}
 use Rattle.model.proofs.Bools.{and_left, and_right}
 use Rattle.model.specs.declared.machine.Setup.{Setup}
-use Rattle.records.specs.Places.{Place, PartitionEnabled, Mbec, Config, Active, Shared, Register, Tpr, Pending, Enabled, Secure, Reason, From, Rax, Rcx, Word, Mask, Intercepts, Cr0Mask, Cr4Mask, HostMask, VinaWord, Asserted, known, upper, has, private_count}
+use Rattle.records.specs.Places.{Place, PartitionEnabled, Mbec, Config, Active, Shared, Register, Tpr, Pending, Enabled, Secure, Reason, From, Rax, Rcx, Word, Mask, Intercepts, Cr0Mask, Cr4Mask, known, upper, has, private_count}
 use Rattle.records.proofs.Sequence.{private-count, count-bounds, first_two, third}
 
 abbrev pub Limits : Setup → Place → Type 0
@@ -30,13 +30,10 @@ Limits c (From v l) = (v.0 < 4) × (l.0 < 4)
 Limits c (Rax v l) = (v.0 < 4) × (l.0 < 4)
 Limits c (Rcx v l) = (v.0 < 4) × (l.0 < 4)
 Limits c (Word p) = (p.0 < c.pages) × Unit {0}
-Limits c (Mask p t) = (p.0 < c.pages) × (p.0 < 64) × (t.0 < 4) × (0 < t.0)
+Limits c (Mask p t) = (p.0 < c.pages) × (p.0 < 64) × (t.0 < 4)
 Limits c (Intercepts v l) = (v.0 < 4) × (l.0 < 4)
 Limits c (Cr0Mask v l) = (v.0 < 4) × (l.0 < 4)
 Limits c (Cr4Mask v l) = (v.0 < 4) × (l.0 < 4)
-Limits c (HostMask p) = (p.0 < c.pages) × (p.0 < 64)
-Limits c (VinaWord v l) = (v.0 < 4) × (l.0 < 4)
-Limits c (Asserted v l) = (v.0 < 4) × (l.0 < 4)
 
 module _ (c : Setup) where
   four : (l : Level) → is_level c.shape l.0 ≡ true → l.0 < 4
@@ -89,12 +86,7 @@ module _ (c : Setup) where
     ltb-true p.0 c.pages (middle (upper c.shape t) (ltb p.0 c.pages) (ltb p.0 64) h),
     ltb-true p.0 64 (third (upper c.shape t) (ltb p.0 c.pages) (ltb p.0 64) h),
     (over t (and_left (upper c.shape t) _ h)).1,
-    (over t (and_left (upper c.shape t) _ h)).0,
   )
   limits (Intercepts v l) h = two v l h
   limits (Cr0Mask v l) h = two v l h
   limits (Cr4Mask v l) h = two v l h
-  limits (VinaWord v l) h = two v l h
-  limits (Asserted v l) h = two v l h
-  limits (HostMask p) h =
-      (ltb-true p.0 c.pages (and_left (ltb p.0 c.pages) (ltb p.0 64) h), ltb-true p.0 64 (and_right (ltb p.0 c.pages) (ltb p.0 64) h))

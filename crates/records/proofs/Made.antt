@@ -13,14 +13,14 @@ use Rattle.model.specs.Registers.{is_private, private_of, shared_of}
 use Rattle.model.specs.declared.quantity.Level.{Level}
 use Rattle.model.specs.declared.quantity.Page.{Page}
 use Rattle.model.specs.declared.quantity.Processor.{Processor}
-use Rattle.model.specs.State.{State, level, processors, pages, partition, shape, top, in_set, is_level, is_processor, is_page, vp, context, active_of, active, enabled_at, enabled_on, enabled_for, mbec_for, config_in, config_of, mask_in, mask_of, host_level, host_in, host_mask_of, word_of, secure_of, no_vp, past_vp, past_context}
+use Rattle.model.specs.State.{State, level, processors, pages, partition, shape, top, in_set, is_level, is_processor, is_page, vp, context, active_of, active, enabled_at, enabled_on, enabled_for, mbec_for, config_in, config_of, mask_in, mask_of, word_of, secure_of, no_vp, past_vp, past_context}
 use Rattle.model.proofs.Bools.{and_left, and_right}
 use Rattle.model.proofs.Sets.{bit-bits}
 use Rattle.script.specs.EventForms.{processor, page}
 use Rattle.model.specs.declared.machine.Setup.{Setup}
-use Rattle.records.specs.Places.{Place, PartitionEnabled, Mbec, Config, Active, Shared, Register, Tpr, Pending, Enabled, Secure, Reason, From, Rax, Rcx, Word, Mask, Intercepts, Cr0Mask, Cr4Mask, HostMask, VinaWord, Asserted, known, upper, has, private_count}
+use Rattle.records.specs.Places.{Place, PartitionEnabled, Mbec, Config, Active, Shared, Register, Tpr, Pending, Enabled, Secure, Reason, From, Rax, Rcx, Word, Mask, Intercepts, Cr0Mask, Cr4Mask, known, upper, has, private_count}
 use Rattle.records.specs.Reading.{is_flag}
-use Rattle.records.specs.Values.{mask_place, number, value_at, set_from, context_from, vp_from, state_from}
+use Rattle.records.specs.Values.{number, value_at, set_from, context_from, vp_from, state_from}
 use Rattle.records.proofs.Sequence.{private-count, count-bounds, third, first_two}
 use Rattle.records.proofs.Tables.{number-table, get_or-table}
 
@@ -30,13 +30,6 @@ flag-back x h = go (eqb x 1) refl
     go : (b : Bool) → eqb x 1 ≡ b → number b ≡ x
     go true e = sym (eqb-true x 1 e)
     go false e = let apart : (x ≡ 1 → ⊥) = eqb-false x 1 e in omega arith
-
--- Which mask stands at a place: that of a level, or the host's.
-pub at_level : {q r p t : ℕ} → q ≡ p → r ≡ t → eqb t 0 ≡ false → mask_place q r ≡ Mask (page p) (level t)
-at_level of-page of-level above = rw (of-page, of-level, above)
-
-pub at-host : {q r p : ℕ} → q ≡ p → r ≡ 0 → mask_place q r ≡ HostMask (page p)
-at-host of-page of-level = rw (of-page, of-level)
 
 module _ (c : Setup) (g : Place → ℕ) where
   abbrev S : State
@@ -87,14 +80,7 @@ module _ (c : Setup) (g : Place → ℕ) where
   mask p t h k below =
       let of-page : (4 * p.0 + t.0) / 4 ≡ p.0 = omega arith in
       let of-level : (4 * p.0 + t.0) % 4 ≡ t.0 = omega arith in
-      rw h (number-table 256 (λ i. g (mask_place (i / 4) (i % 4))) (4 * p.0 + t.0) (omega arith) ∙ ap g (at_level of-page of-level (over t (and_left (upper c.shape t) _ h))))
-
-  host : (p : Page) → has c (HostMask p) ≡ true → p.0 < 64 → host_mask_of S p.0 ≡ g (HostMask p)
-  unfolding host_mask_of host_in has state_from partition pages
-  host p h below =
-      let of-page : (4 * p.0 + host_level) / 4 ≡ p.0 = omega arith in
-      let of-level : (4 * p.0 + host_level) % 4 ≡ 0 = omega arith in
-      rw h (number-table 256 (λ i. g (mask_place (i / 4) (i % 4))) (4 * p.0 + host_level) (omega arith) ∙ ap g (at-host of-page of-level))
+      rw h (number-table 256 (λ i. g (Mask (page (i / 4)) (level (i % 4)))) (4 * p.0 + t.0) (omega arith) ∙ rw (of-page, of-level))
 
   pub made : (p : Place) → has c p ≡ true → (is_flag p ≡ true → g p ≤ 1) → value_at S p ≡ g p
   unfolding value_at has is_flag enabled_for mbec_for partition active active_of shared_of private_of enabled_on enabled_at secure_of shape state_from
@@ -135,9 +121,6 @@ module _ (c : Setup) (g : Place → ℕ) where
   made (Intercepts v l) h f = ap (λ (k : Context). k.watch.intercepts) (made-upper v l h)
   made (Cr0Mask v l) h f = ap (λ (k : Context). k.watch.cr0_mask) (made-upper v l h)
   made (Cr4Mask v l) h f = ap (λ (k : Context). k.watch.cr4_mask) (made-upper v l h)
-  made (VinaWord v l) h f = ap (λ (k : Context). k.vina.word) (made-upper v l h)
-  made (Asserted v l) h f = ap (λ (k : Context). k.vina.asserted) (made-upper v l h)
-  made (HostMask p) h f = host p h (ltb-true p.0 64 (and_right (ltb p.0 c.pages) (ltb p.0 64) h))
   made (Word p) h f = word p (ltb-true p.0 c.pages h)
   made (Mask p t) h f =
       mask p t h (low t (inside t (and_left (upper c.shape t) _ h))) (ltb-true p.0 64 (third (upper c.shape t) (ltb p.0 c.pages) (ltb p.0 64) h))

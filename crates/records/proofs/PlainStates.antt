@@ -15,7 +15,7 @@ use Rattle.model.specs.declared.machine.Context.{Context}
 use Rattle.model.specs.declared.machine.Shape.{Shape}
 use Rattle.model.specs.declared.quantity.Level.{Level}
 use Rattle.model.specs.declared.set.LevelSet.{LevelSet}
-use Rattle.model.specs.State.{State, level, level_set, in_range, processors, pages, shape, max_level_of, partition, in_set, is_level, is_processor, is_page, vp, context, active_of, active, enabled_at, enabled_on, enabled_for, mbec_for, config_in, config_of, mask_in, mask_of, host_level, host_in, host_mask_of, word_of, secure_of, no_control, no_watch, no_vina, no_context, no_vp, past_vp, past_context}
+use Rattle.model.specs.State.{State, level, level_set, in_range, processors, pages, shape, max_level_of, partition, in_set, is_level, is_processor, is_page, vp, context, active_of, active, enabled_at, enabled_on, enabled_for, mbec_for, config_in, config_of, mask_in, mask_of, word_of, secure_of, no_control, no_watch, no_context, no_vp, past_vp, past_context}
 use Rattle.model.specs.declared.quantity.Processor.{Processor}
 use Rattle.model.specs.WellFormed.{well_sized, well_formed_context, well_formed_vp, well_formed_parts, well_formed}
 use Rattle.model.proofs.Bools.{and_left, and_right, and-off, implied, hold, cond-then}
@@ -24,9 +24,9 @@ use Rattle.model.proofs.Formed.{well-sized, well-parts, well-vp}
 use Rattle.model.proofs.Sets.{bits-cong}
 use Rattle.script.specs.EventForms.{processor, page}
 use Rattle.model.specs.declared.machine.Setup.{Setup}
-use Rattle.records.specs.Places.{Place, PartitionEnabled, Mbec, Config, Active, Shared, Register, Tpr, Pending, Enabled, Secure, Reason, From, Rax, Rcx, Word, Mask, Intercepts, Cr0Mask, Cr4Mask, HostMask, VinaWord, Asserted, known, has}
+use Rattle.records.specs.Places.{Place, PartitionEnabled, Mbec, Config, Active, Shared, Register, Tpr, Pending, Enabled, Secure, Reason, From, Rax, Rcx, Word, Mask, Intercepts, Cr0Mask, Cr4Mask, known, has}
 use Rattle.records.specs.Reading.{only}
-use Rattle.records.specs.Values.{setup_at, mask_place, number, value_at, table, set_from, context_from, vp_from, state_from, plain, SizedContext, SizedVp, Lengths}
+use Rattle.records.specs.Values.{setup_at, number, value_at, table, set_from, context_from, vp_from, state_from, plain, SizedContext, SizedVp, Lengths}
 use Rattle.records.proofs.Sequence.{Small, level-true}
 use Rattle.records.proofs.Tables.{map_at-is, list-is, number-get}
 
@@ -123,22 +123,12 @@ module _ (s : State) (w : well_formed s ≡ true) (sized : Lengths s) where
   unfolding g only has value_at config_of config_in partition shape
   config-is l h = rw (number-get 4 s.machine.partition.configs l h) (sym (cond-then (ltb 0 l && is_level s.machine.shape l) _ 0))
 
-  mask_is : (i : ℕ) → i < 256 → cond (is_mask s i) (get_or s.machine.partition.masks i 0) 0 ≡ g (mask_place (i / 4) (i % 4))
-  unfolding is_mask g only has value_at mask_of mask_in host_mask_of host_in partition is_page shape pages
-  mask_is i h = go (eqb (i % 4) 0) refl
-    where
-      go : (b : Bool) → eqb (i % 4) 0 ≡ b
-          → cond (is_mask s i) (get_or s.machine.partition.masks i 0) 0 ≡ g (cond b (HostMask (page (i / 4))) (Mask (page (i / 4)) (level (i % 4))))
-      go true q =
-          let column : i % 4 ≡ 0 = eqb-true (i % 4) 0 q in
-          let e : 4 * (i / 4) + host_level ≡ i = omega arith in
-          rw (e, number-get 256 s.machine.partition.masks i h, column, zero-level)
-          (sym (cond-then (ltb (i / 4) s.machine.pages && ltb (i / 4) 64) _ 0))
-      go false q =
-          let apart : (i % 4 ≡ 0 → ⊥) = eqb-false (i % 4) 0 q in
-          let e : 4 * (i / 4) + i % 4 ≡ i = omega arith in
-          rw (e, number-get 256 s.machine.partition.masks i h, lt-ltb 0 (i % 4) (omega arith))
-          (sym (cond-then (is_level s.machine.shape (i % 4) && (ltb (i / 4) s.machine.pages && ltb (i / 4) 64)) _ 0))
+  mask_is : (i : ℕ) → i < 256 → cond (is_mask s i) (get_or s.machine.partition.masks i 0) 0 ≡ g (Mask (page (i / 4)) (level (i % 4)))
+  unfolding is_mask g only has value_at mask_of mask_in partition is_page shape pages
+  mask_is i h =
+      let e : 4 * (i / 4) + i % 4 ≡ i = omega arith in
+      rw (e, number-get 256 s.machine.partition.masks i h)
+      (sym (cond-then (ltb 0 (i % 4) && is_level s.machine.shape (i % 4) && (ltb (i / 4) s.machine.pages && ltb (i / 4) 64)) _ 0))
 
   word-is : (p : ℕ) → p < s.machine.pages → get_or s.words p 0 ≡ g (Word (page p))
   unfolding g only has value_at word_of
@@ -206,16 +196,6 @@ module _ (s : State) (w : well_formed s ≡ true) (sized : Lengths s) where
               let apart : (l.0 ≡ 0 → ⊥) = eqb-false l.0 0 q in
               rw (e, f, lt-ltb 0 l.0 (omega arith))
 
-      vina-is : cond (eqb l.0 0) no_vina k.vina ≡ record { word = g (VinaWord v l); asserted = g (Asserted v l) }
-      unfolding k g only has value_at shape
-      vina-is = go (eqb l.0 0) refl
-        where
-          go : (t : Bool) → eqb l.0 0 ≡ t → cond t no_vina k.vina ≡ record { word = g (VinaWord v l); asserted = g (Asserted v l) }
-          go true q = let lowest : l.0 ≡ 0 = eqb-true l.0 0 q in rw (lowest, e)
-          go false q =
-              let apart : (l.0 ≡ 0 → ⊥) = eqb-false l.0 0 q in
-              rw (e, f, lt-ltb 0 l.0 (omega arith))
-
       register-is : (r : ℕ) → r < 13 → cond (is_private s.machine.shape r) (get_or k.registers r 0) 0 ≡ g (Register v l r)
       unfolding k g only has value_at private_of shape
       register-is r h = rw (e, f, number-get 13 k.registers r h)
@@ -241,7 +221,6 @@ module _ (s : State) (w : well_formed s ≡ true) (sized : Lengths s) where
         secure = map_at-is (λ j w. cond (ltb j l.0) w 0) k.secure 4 0 (λ j. g (Secure v l (level j))) k-sized.secure secure-is i;
         control = control-is i;
         watch = watch-is i;
-        vina = vina-is i;
       }
         where
           registers : map_at (λ r x. cond (is_private s.machine.shape r) (cond (hides 4 false l.0 on) (cond (eqb r 3 && on) 1 0) x) 0) k.registers
@@ -299,7 +278,7 @@ module _ (s : State) (w : well_formed s ≡ true) (sized : Lengths s) where
         enabled = enabled-is i;
         mbec = mbec-is i;
         configs = map_at-is (λ l w. cond (ltb 0 l && is_level s.machine.shape l) w 0) s.machine.partition.configs 4 0 (λ l. g (Config (level l))) sized.configs config-is i;
-        masks = map_at-is (λ i k. cond (is_mask s i) k 0) s.machine.partition.masks 256 0 (λ i. g (mask_place (i / 4) (i % 4))) sized.masks mask_is i;
+        masks = map_at-is (λ i k. cond (is_mask s i) k 0) s.machine.partition.masks 256 0 (λ i. g (Mask (page (i / 4)) (level (i % 4)))) sized.masks mask_is i;
       };
       vps = map_at-is (λ v p. cond (is_processor s v) (hide_vp 4 (λ l. false) s.machine.shape p) no_vp) s.machine.vps 4 past_vp (λ v. vp_from (setup_at s) g (processor v)) sized.vps vps-is i;
     };

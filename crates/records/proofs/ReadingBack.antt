@@ -27,10 +27,10 @@ use Rattle.script.specs.declared.Start.TheVariants as start
 use Rattle.state.specs.Lent.{setup_of}
 use Rattle.model.specs.declared.machine.Setup.{Setup}
 use Rattle.records.specs.RecordClaims.{Exact}
-use Rattle.records.specs.Places.{Place, PartitionEnabled, Mbec, Config, Active, Shared, Register, Tpr, Pending, Enabled, Secure, Reason, From, Rax, Rcx, Word, Mask, Intercepts, Cr0Mask, Cr4Mask, HostMask, VinaWord, Asserted, places, has, end_rank, rank}
+use Rattle.records.specs.Places.{Place, PartitionEnabled, Mbec, Config, Active, Shared, Register, Tpr, Pending, Enabled, Secure, Reason, From, Rax, Rcx, Word, Mask, Intercepts, Cr0Mask, Cr4Mask, places, has, end_rank, rank}
 use Rattle.records.specs.Reading.{is_flag, Taken, taking, among, only, state_of_values, Passed, from_taken, from_first, first_record, passed_on}
 use Rattle.records.specs.RecordTexts.{first_of, lines_at, record_lines}
-use Rattle.records.specs.Values.{setup_at, mask_place, number, value_at, context_from, vp_from, state_from, plain, Lengths, Sized}
+use Rattle.records.specs.Values.{setup_at, number, value_at, context_from, vp_from, state_from, plain, Lengths, Sized}
 use Rattle.records.proofs.RecordLines.{Fit, Fits, no-some, some_same, taking-back, taking-only, zipped_map}
 use Rattle.records.proofs.Made.{made, flag-back}
 use Rattle.records.proofs.Sequence.{Small, Run, In, here, there, member, places-run, run-has, run-above, among_in, among-all, map_same}
@@ -116,9 +116,6 @@ yes-no s (Mask p t) h = no_flag h
 yes-no s (Intercepts v l) h = no_flag h
 yes-no s (Cr0Mask v l) h = no_flag h
 yes-no s (Cr4Mask v l) h = no_flag h
-yes-no s (HostMask p) h = no_flag h
-yes-no s (VinaWord v l) h = no_flag h
-yes-no s (Asserted v l) h = no_flag h
 
 -- What is given at the places that a machine has, and nothing else, counts.
 only_same : (c : Setup) (f g : Place → ℕ) → ((p : Place) → has c p ≡ true → f p ≡ g p) → only c f ≡ only c g
@@ -219,7 +216,7 @@ module _ (c : Setup) where
       let g = only c (among (places c) xs) in
       record {
         configs = length-table 4 (λ l. g (Config (level l)));
-        masks = length-table 256 (λ i. g (mask_place (i / 4) (i % 4)));
+        masks = length-table 256 (λ i. g (Mask (page (i / 4)) (level (i % 4))));
         vps = length-table 4 (λ v. vp_from c g (processor v));
         each = λ v h. rw (get_or-table 4 (λ v. vp_from c g (processor v)) v past_vp h) (record {
           shared = length-table 20 (λ i. g (Shared (processor v) (12 + i)));

@@ -15,7 +15,7 @@ use Rattle.script.specs.LineForms.{tab}
 use Rattle.script.specs.ListingLine.{cell, line_feed}
 use Rattle.script.specs.Records.{lines, lines_in}
 use Rattle.script.specs.Texts.{parted, first_text, first_line_of, written}
-use Rattle.records.specs.Places.{Place, PartitionEnabled, Mbec, Config, Active, Shared, Register, Tpr, Pending, Enabled, Secure, Reason, From, Rax, Rcx, Word, Mask, Intercepts, Cr0Mask, Cr4Mask, HostMask, VinaWord, Asserted, places}
+use Rattle.records.specs.Places.{Place, PartitionEnabled, Mbec, Config, Active, Shared, Register, Tpr, Pending, Enabled, Secure, Reason, From, Rax, Rcx, Word, Mask, Intercepts, Cr0Mask, Cr4Mask, places}
 use Rattle.records.specs.RecordClaims.{OnlyRecords, ReadBack, SameBytes}
 use Rattle.records.specs.Reading.{passed_on}
 use Rattle.records.specs.RecordTexts.{head_of, closed, front, record_line, first_of, lines_at, record_lines, ended, records_text}
@@ -62,9 +62,6 @@ word-no-feed (Mask p t) = refl
 word-no-feed (Intercepts v l) = refl
 word-no-feed (Cr0Mask v l) = refl
 word-no-feed (Cr4Mask v l) = refl
-word-no-feed (HostMask p) = refl
-word-no-feed (VinaWord v l) = refl
-word-no-feed (Asserted v l) = refl
 
 closed-no-feed : (numbers : List ℕ) → no_feed (closed numbers) ≡ true
 unfolding closed cell

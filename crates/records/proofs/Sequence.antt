@@ -16,7 +16,7 @@ use Rattle.model.specs.declared.quantity.Processor.{Processor}
 use Rattle.model.proofs.Bools.{and_left, and_right}
 use Rattle.script.specs.EventForms.{processor, page}
 use Rattle.model.specs.declared.machine.Setup.{Setup}
-use Rattle.records.specs.Places.{Place, PartitionEnabled, Mbec, Config, Active, Shared, Register, Tpr, Pending, Enabled, Secure, Reason, From, Rax, Rcx, Word, Mask, Intercepts, Cr0Mask, Cr4Mask, HostMask, VinaWord, Asserted, rising, private_count, shared_count, level_places, processor_places, upper_places, context_places, page_places, per_upper, cr_mask_places, of_levels, of_processors, of_contexts, of_pages, of_intercepts, of_cr_masks, of_host_masks, of_vina_words, of_asserted, places, known, upper, has, context_rank, end_rank, rank}
+use Rattle.records.specs.Places.{Place, PartitionEnabled, Mbec, Config, Active, Shared, Register, Tpr, Pending, Enabled, Secure, Reason, From, Rax, Rcx, Word, Mask, Intercepts, Cr0Mask, Cr4Mask, rising, private_count, shared_count, level_places, processor_places, upper_places, context_places, page_places, per_upper, cr_mask_places, of_levels, of_processors, of_contexts, of_pages, of_intercepts, of_cr_masks, places, known, upper, has, context_rank, end_rank, rank}
 use Rattle.records.specs.Reading.{among}
 
 -- Numbers of processors and levels for which there is room.
@@ -227,27 +227,10 @@ module _ (c : Setup) (small : Small c) where
   unfolding rank has
   cr-masks-run = uppers-run cr_mask_places 2900 (λ t. 2 * t) (λ n h. omega arith) (λ v t h. (omega arith, h, (omega arith, h, omega arith)))
 
-  host-masks-run : Run c 3000 (of_host_masks c) (3000 + c.pages)
-  unfolding rank has
-  host-masks-run =
-      run-each c (λ p. HostMask (page p)) 3000 0 c.pages c.pages (omega arith) (λ p. refl)
-      (λ p a b. rw (lt-ltb p c.pages b, lt-ltb p 64 (omega (arith, small.pages))))
-
-  vina-words-run : Run c 3100 (of_vina_words c) (3100 + 10 * c.processors)
-  unfolding rank has
-  vina-words-run = uppers-run (λ v t. VinaWord v t ∷ []) 3100 (λ t. t) (λ n h. omega arith) (λ v t h. (omega arith, h, omega arith))
-
-  asserted-run : Run c 3200 (of_asserted c) (3200 + 10 * c.processors)
-  unfolding rank has
-  asserted-run = uppers-run (λ v t. Asserted v t ∷ []) 3200 (λ t. t) (λ n h. omega arith) (λ v t h. (omega arith, h, omega arith))
-
   pub places-run : Run c 0 (places c) (end_rank c)
   unfolding places
   places-run =
-      run-append c 0 3200 (end_rank c) (of_levels c ++ of_processors c ++ of_contexts c ++ of_pages c ++ of_intercepts c ++ of_cr_masks c ++ of_host_masks c ++ of_vina_words c) (of_asserted c)
-      (run-append c 0 3100 3200 (of_levels c ++ of_processors c ++ of_contexts c ++ of_pages c ++ of_intercepts c ++ of_cr_masks c ++ of_host_masks c) (of_vina_words c)
-      (run-append c 0 3000 3100 (of_levels c ++ of_processors c ++ of_contexts c ++ of_pages c ++ of_intercepts c ++ of_cr_masks c) (of_host_masks c)
-      (run-append c 0 2900 3000 (of_levels c ++ of_processors c ++ of_contexts c ++ of_pages c ++ of_intercepts c) (of_cr_masks c)
+      run-append c 0 2900 (end_rank c) (of_levels c ++ of_processors c ++ of_contexts c ++ of_pages c ++ of_intercepts c) (of_cr_masks c)
       (run-append c 0 2800 2900 (of_levels c ++ of_processors c ++ of_contexts c ++ of_pages c) (of_intercepts c)
       (run-append c 0 2100 2800 (of_levels c ++ of_processors c ++ of_contexts c) (of_pages c)
       (run-append c 0 500 2100 (of_levels c ++ of_processors c) (of_contexts c)
@@ -257,10 +240,7 @@ module _ (c : Setup) (small : Small c) where
       (run-within c 500 500 (500 + 400 * c.processors) 2100 (of_contexts c) (omega arith) (omega arith) contexts-run))
       (run-within c 2100 2100 (2100 + 10 * c.pages) 2800 (of_pages c) (omega arith) (omega arith) pages-run))
       (run-within c 2800 2800 (2800 + 10 * c.processors) 2900 (of_intercepts c) (omega arith) (omega arith) intercepts-run))
-      (run-within c 2900 2900 (2900 + 10 * c.processors) 3000 (of_cr_masks c) (omega arith) (omega arith) cr-masks-run))
-      (run-within c 3000 3000 (3000 + c.pages) 3100 (of_host_masks c) (omega arith) (omega (arith, small.pages)) host-masks-run))
-      (run-within c 3100 3100 (3100 + 10 * c.processors) 3200 (of_vina_words c) (omega arith) (omega arith) vina-words-run))
-      asserted-run
+      cr-masks-run
 
 -- A place is among some.
 pub data In {A : Type 0} : A → List A → Type 0 where
@@ -298,20 +278,20 @@ module _ (c : Setup) where
   in-levels : {p : Place} (t : Level) → upper c.shape t ≡ true → In p (level_places t) → In p (places c)
   unfolding places
   in-levels t h m =
-      in_left _ (in_left _ (in_left _ (in_left _ (in_left _ (in_left _ (in_left _ (in_left _ (in-rising (λ t. level_places (level t)) 1 (top c.shape) t.0 (above t h).0 (omega (arith, above t h)) m))))))))
+      in_left _ (in_left _ (in_left _ (in_left _ (in_left _ (in-rising (λ t. level_places (level t)) 1 (top c.shape) t.0 (above t h).0 (omega (arith, above t h)) m)))))
 
   in-processors : {p : Place} (v : Processor) → known c v ≡ true → In p (processor_places c.shape v) → In p (places c)
   unfolding places
   in-processors v h m =
-      in_left _ (in_left _ (in_left _ (in_left _ (in_left _ (in_left _ (in_left _ (in_right (of_levels c)
-      (in-rising (λ v. processor_places c.shape (processor v)) 0 c.processors v.0 (omega arith) (omega (arith, within v h)) m))))))))
+      in_left _ (in_left _ (in_left _ (in_left _ (in_right (of_levels c)
+      (in-rising (λ v. processor_places c.shape (processor v)) 0 c.processors v.0 (omega arith) (omega (arith, within v h)) m)))))
 
   in-contexts : {p : Place} (v : Processor) (l : Level) → known c v ≡ true → is_level c.shape l.0 ≡ true → In p (context_places c.shape v l) → In p (places c)
   unfolding places
   in-contexts v l h k m =
-      in_left _ (in_left _ (in_left _ (in_left _ (in_left _ (in_left _ (in_right (of_levels c ++ of_processors c)
+      in_left _ (in_left _ (in_left _ (in_right (of_levels c ++ of_processors c)
       (in-rising (λ v. rising 0 (suc (top c.shape)) (λ l. context_places c.shape (processor v) (level l))) 0 c.processors v.0 (omega arith) (omega (arith, within v h))
-      (in-rising (λ l. context_places c.shape v (level l)) 0 (suc (top c.shape)) l.0 (omega arith) (omega (arith, reach l.0 k)) m))))))))
+      (in-rising (λ l. context_places c.shape v (level l)) 0 (suc (top c.shape)) l.0 (omega arith) (omega (arith, reach l.0 k)) m)))))
 
   in-upper : {p : Place} (v : Processor) (l : Level) → (known c v && upper c.shape l) ≡ true → In p (upper_places v l) → In p (places c)
   in-upper {p} v l h m =
@@ -329,8 +309,8 @@ module _ (c : Setup) where
   in-pages : {p : Place} (i : Page) → i.0 < c.pages → In p (page_places c.shape i) → In p (places c)
   unfolding places
   in-pages i h m =
-      in_left _ (in_left _ (in_left _ (in_left _ (in_left _ (in_right (of_levels c ++ of_processors c ++ of_contexts c)
-      (in-rising (λ i. page_places c.shape (page i)) 0 c.pages i.0 (omega arith) (omega arith) m))))))
+      in_left _ (in_left _ (in_right (of_levels c ++ of_processors c ++ of_contexts c)
+      (in-rising (λ i. page_places c.shape (page i)) 0 c.pages i.0 (omega arith) (omega arith) m)))
 
   in-uppers : {p : Place} (f : Processor → Level → List Place) (v : Processor) (t : Level) → (known c v && upper c.shape t) ≡ true → In p (f v t) → In p (per_upper c f)
   in-uppers f v t h m =
@@ -342,27 +322,11 @@ module _ (c : Setup) where
   in-intercepts : {p : Place} (v : Processor) (t : Level) → (known c v && upper c.shape t) ≡ true → In p (Intercepts v t ∷ []) → In p (places c)
   unfolding places
   in-intercepts v t h m =
-      in_left _ (in_left _ (in_left _ (in_left _ (in_right (of_levels c ++ of_processors c ++ of_contexts c ++ of_pages c) (in-uppers (λ v t. Intercepts v t ∷ []) v t h m)))))
+      in_left _ (in_right (of_levels c ++ of_processors c ++ of_contexts c ++ of_pages c) (in-uppers (λ v t. Intercepts v t ∷ []) v t h m))
 
   in-cr-masks : {p : Place} (v : Processor) (t : Level) → (known c v && upper c.shape t) ≡ true → In p (cr_mask_places v t) → In p (places c)
   unfolding places
-  in-cr-masks v t h m = in_left _ (in_left _ (in_left _ (in_right (of_levels c ++ of_processors c ++ of_contexts c ++ of_pages c ++ of_intercepts c) (in-uppers cr_mask_places v t h m))))
-
-  in-host-masks : {p : Place} (i : Page) → i.0 < c.pages → In p (HostMask i ∷ []) → In p (places c)
-  unfolding places
-  in-host-masks i h m =
-      in_left _ (in_left _ (in_right (of_levels c ++ of_processors c ++ of_contexts c ++ of_pages c ++ of_intercepts c ++ of_cr_masks c)
-      (in-rising (λ i. HostMask (page i) ∷ []) 0 c.pages i.0 (omega arith) (omega arith) m)))
-
-  in-vina-words : {p : Place} (v : Processor) (t : Level) → (known c v && upper c.shape t) ≡ true → In p (VinaWord v t ∷ []) → In p (places c)
-  unfolding places
-  in-vina-words v t h m =
-      in_left _ (in_right (of_levels c ++ of_processors c ++ of_contexts c ++ of_pages c ++ of_intercepts c ++ of_cr_masks c ++ of_host_masks c) (in-uppers (λ v t. VinaWord v t ∷ []) v t h m))
-
-  in-asserted : {p : Place} (v : Processor) (t : Level) → (known c v && upper c.shape t) ≡ true → In p (Asserted v t ∷ []) → In p (places c)
-  unfolding places
-  in-asserted v t h m =
-      in_right (of_levels c ++ of_processors c ++ of_contexts c ++ of_pages c ++ of_intercepts c ++ of_cr_masks c ++ of_host_masks c ++ of_vina_words c) (in-uppers (λ v t. Asserted v t ∷ []) v t h m)
+  in-cr-masks v t h m = in_right (of_levels c ++ of_processors c ++ of_contexts c ++ of_pages c ++ of_intercepts c) (in-uppers cr_mask_places v t h m)
 
   -- Each place that a state has is in the sequence.
   pub member : (p : Place) → has c p ≡ true → In p (places c)
@@ -397,9 +361,6 @@ module _ (c : Setup) where
   member (Intercepts v t) h = in-intercepts v t h here
   member (Cr0Mask v t) h = in-cr-masks v t h here
   member (Cr4Mask v t) h = in-cr-masks v t h (there here)
-  member (HostMask p) h = in-host-masks p (ltb-true p.0 c.pages (and_left (ltb p.0 c.pages) (ltb p.0 64) h)) here
-  member (VinaWord v t) h = in-vina-words v t h here
-  member (Asserted v t) h = in-asserted v t h here
   member (Word p) h = in-pages p (ltb-true p.0 c.pages h) here
   member (Mask p t) h =
       let u = and_left (upper c.shape t) _ h in

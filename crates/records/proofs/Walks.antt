@@ -12,8 +12,8 @@ use Rattle.model.specs.declared.quantity.Processor.{Processor}
 use Rattle.model.specs.State.{level, top}
 use Rattle.script.specs.EventForms.{processor, page}
 use Rattle.model.specs.declared.machine.Setup.{Setup}
-use Rattle.records.specs.Places.{Place, Shared, Register, Tpr, Pending, Enabled, Secure, Reason, From, Rax, Rcx, Mask, Intercepts, Cr0Mask, HostMask, VinaWord, Asserted, rising, private_count, shared_count, level_places, processor_places, upper_places, context_places, page_places, per_upper, cr_mask_places, of_levels, of_processors, of_contexts, of_pages, of_intercepts, of_cr_masks, of_host_masks, of_vina_words, of_asserted, places, rank, end_rank}
-use Rattle.records.specs.Walk.{Next, At, Done, On, Nowhere, upper_from, upper_at, placed, to_asserted, to_vina_word, to_host_mask, to_cr_mask, to_intercepts, to_page, to_mask, to_contexts, to_context, to_register, to_pending, to_secure, to_processor, to_shared, to_level, next_of, first_due}
+use Rattle.records.specs.Places.{Place, Shared, Register, Tpr, Pending, Enabled, Secure, Reason, From, Rax, Rcx, Mask, Intercepts, Cr0Mask, rising, private_count, shared_count, level_places, processor_places, upper_places, context_places, page_places, per_upper, cr_mask_places, of_levels, of_processors, of_contexts, of_pages, of_intercepts, of_cr_masks, places, rank, end_rank}
+use Rattle.records.specs.Walk.{Next, At, Done, On, Nowhere, upper_from, upper_at, placed, to_cr_mask, to_intercepts, to_page, to_mask, to_contexts, to_context, to_register, to_pending, to_secure, to_processor, to_shared, to_level, next_of, first_due}
 use Rattle.records.proofs.Sequence.{Run, counts, count-bounds}
 
 -- The walk from a goes over these places and comes to b.
@@ -147,27 +147,13 @@ module _ (c : Setup) where
         (λ t k m. walk_ends (f (processor v) (level t)) (rw (le-leb t (top c.shape) (omega arith))) (ap (λ n. placed place end (upper_at c (processor v) n)) (add-one t))
         (each (processor v) (level t))))))
 
-  intercepts-walk : Walk c (to_intercepts c (upper_from c 0)) (of_intercepts c) (to_cr_mask c (upper_from c 0))
+  intercepts-walk : Walk c (to_intercepts c (upper_from c 0)) (of_intercepts c) (to_cr_mask (upper_from c 0))
   unfolding next_of
-  intercepts-walk = uppers-walk Intercepts (λ v t. Intercepts v t ∷ []) (to_cr_mask c (upper_from c 0)) (λ v t. (refl, refl))
+  intercepts-walk = uppers-walk Intercepts (λ v t. Intercepts v t ∷ []) (to_cr_mask (upper_from c 0)) (λ v t. (refl, refl))
 
-  cr-masks-walk : Walk c (to_cr_mask c (upper_from c 0)) (of_cr_masks c) (to_host_mask c 0)
+  cr-masks-walk : Walk c (to_cr_mask (upper_from c 0)) (of_cr_masks c) Done
   unfolding next_of
-  cr-masks-walk = uppers-walk Cr0Mask cr_mask_places (to_host_mask c 0) (λ v t. (refl, (refl, refl)))
-
-  vina-words-walk : Walk c (to_vina_word c (upper_from c 0)) (of_vina_words c) (to_asserted (upper_from c 0))
-  unfolding next_of
-  vina-words-walk = uppers-walk VinaWord (λ v t. VinaWord v t ∷ []) (to_asserted (upper_from c 0)) (λ v t. (refl, refl))
-
-  asserted-walk : Walk c (to_asserted (upper_from c 0)) (of_asserted c) Done
-  unfolding next_of
-  asserted-walk = uppers-walk Asserted (λ v t. Asserted v t ∷ []) Done (λ v t. (refl, refl))
-
-  host-masks-walk : Walk c (to_host_mask c 0) (of_host_masks c) (to_vina_word c (upper_from c 0))
-  unfolding to_host_mask next_of
-  host-masks-walk =
-      walk_ends (of_host_masks c) refl (rw (le-ltb c.pages c.pages (omega arith)))
-      (walk-each (to_host_mask c) (λ p. HostMask (page p)) 0 c.pages c.pages (omega arith) (λ p a b. rw (lt-ltb p c.pages b)) (λ p. refl))
+  cr-masks-walk = uppers-walk Cr0Mask cr_mask_places Done (λ v t. (refl, (refl, refl)))
 
   pages-walk : Walk c (to_page c 0) (of_pages c) (to_intercepts c (upper_from c 0))
   unfolding to_page to_mask next_of
@@ -185,20 +171,14 @@ module _ (c : Setup) where
   pub places-walk : Walk c (first_due c) (places c) Done
   unfolding places
   places-walk =
-      walk-append (to_level c 1) (to_asserted (upper_from c 0)) Done (of_levels c ++ of_processors c ++ of_contexts c ++ of_pages c ++ of_intercepts c ++ of_cr_masks c ++ of_host_masks c ++ of_vina_words c) (of_asserted c)
-      (walk-append (to_level c 1) (to_vina_word c (upper_from c 0)) (to_asserted (upper_from c 0)) (of_levels c ++ of_processors c ++ of_contexts c ++ of_pages c ++ of_intercepts c ++ of_cr_masks c ++ of_host_masks c) (of_vina_words c)
-      (walk-append (to_level c 1) (to_host_mask c 0) (to_vina_word c (upper_from c 0)) (of_levels c ++ of_processors c ++ of_contexts c ++ of_pages c ++ of_intercepts c ++ of_cr_masks c) (of_host_masks c)
-      (walk-append (to_level c 1) (to_cr_mask c (upper_from c 0)) (to_host_mask c 0) (of_levels c ++ of_processors c ++ of_contexts c ++ of_pages c ++ of_intercepts c) (of_cr_masks c)
-      (walk-append (to_level c 1) (to_intercepts c (upper_from c 0)) (to_cr_mask c (upper_from c 0)) (of_levels c ++ of_processors c ++ of_contexts c ++ of_pages c) (of_intercepts c)
+      walk-append (to_level c 1) (to_cr_mask (upper_from c 0)) Done (of_levels c ++ of_processors c ++ of_contexts c ++ of_pages c ++ of_intercepts c) (of_cr_masks c)
+      (walk-append (to_level c 1) (to_intercepts c (upper_from c 0)) (to_cr_mask (upper_from c 0)) (of_levels c ++ of_processors c ++ of_contexts c ++ of_pages c) (of_intercepts c)
       (walk-append (to_level c 1) (to_page c 0) (to_intercepts c (upper_from c 0)) (of_levels c ++ of_processors c ++ of_contexts c) (of_pages c)
       (walk-append (to_level c 1) (to_contexts c 0) (to_page c 0) (of_levels c ++ of_processors c) (of_contexts c)
       (walk-append (to_level c 1) (to_processor c 0) (to_contexts c 0) (of_levels c) (of_processors c) levels-walk processors-walk) contexts-walk)
       pages-walk)
       intercepts-walk)
-      cr-masks-walk)
-      host-masks-walk)
-      vina-words-walk)
-      asserted-walk
+      cr-masks-walk
 
 -- The walk does not end at a place.
 pub not-ended : {A : Type 0} {p : Place} → At p ≡ Done → A

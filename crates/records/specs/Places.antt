@@ -10,7 +10,7 @@ use Rattle.model.specs.declared.quantity.Page.{Page}
 use Rattle.model.specs.declared.quantity.Processor.{Processor}
 use Rattle.script.specs.EventForms.{processor, page}
 pub use Rattle.records.specs.declared.place.Place.{Place}
-pub use Rattle.records.specs.declared.place.Place.TheVariants.{PartitionEnabled, Mbec, Config, Active, Shared, Register, Tpr, Pending, Enabled, Secure, Reason, From, Rax, Rcx, Word, Mask, Intercepts, Cr0Mask, Cr4Mask, HostMask, VinaWord, Asserted}
+pub use Rattle.records.specs.declared.place.Place.TheVariants.{PartitionEnabled, Mbec, Config, Active, Shared, Register, Tpr, Pending, Enabled, Secure, Reason, From, Rax, Rcx, Word, Mask, Intercepts, Cr0Mask, Cr4Mask}
 
 -- What stands at each of `count` numbers from `start` up, one after the other.
 unfoldable pub rising : {A : Type 0} → ℕ → ℕ → (ℕ → List A) → List A
@@ -55,7 +55,7 @@ per_upper setup f = rising 0 setup.processors (λ v. rising 1 (top setup.shape) 
 abbrev pub cr_mask_places : Processor → Level → List Place
 cr_mask_places v t = Cr0Mask v t ∷ Cr4Mask v t ∷ []
 
--- The nine parts of the sequence, and the whole.
+-- The six parts of the sequence, and the whole.
 abbrev pub of_levels : Setup → List Place
 of_levels setup = rising 1 (top setup.shape) (λ t. level_places (level t))
 
@@ -76,21 +76,8 @@ of_intercepts setup = per_upper setup (λ v t. Intercepts v t ∷ [])
 abbrev pub of_cr_masks : Setup → List Place
 of_cr_masks setup = per_upper setup cr_mask_places
 
--- Request 7 adds the words of `host`, per page.
-abbrev pub of_host_masks : Setup → List Place
-of_host_masks setup = rising 0 setup.pages (λ p. HostMask (page p) ∷ [])
-
--- Request 8 adds the words of `vina`, then those of `asserted`.
-abbrev pub of_vina_words : Setup → List Place
-of_vina_words setup = per_upper setup (λ v t. VinaWord v t ∷ [])
-
-abbrev pub of_asserted : Setup → List Place
-of_asserted setup = per_upper setup (λ v t. Asserted v t ∷ [])
-
 unfoldable pub places : Setup → List Place
-places setup =
-    of_levels setup ++ of_processors setup ++ of_contexts setup ++ of_pages setup ++ of_intercepts setup ++ of_cr_masks setup ++ of_host_masks setup
-    ++ of_vina_words setup ++ of_asserted setup
+places setup = of_levels setup ++ of_processors setup ++ of_contexts setup ++ of_pages setup ++ of_intercepts setup ++ of_cr_masks setup
 
 -- The same places by a test of each: one of the V processors, a level from 1 to M, and so on.
 abbrev pub known : Setup → Processor → Bool
@@ -119,11 +106,8 @@ has setup (Mask p t) = upper setup.shape t && (ltb p.0 setup.pages && ltb p.0 64
 has setup (Intercepts v t) = known setup v && upper setup.shape t
 has setup (Cr0Mask v t) = known setup v && upper setup.shape t
 has setup (Cr4Mask v t) = known setup v && upper setup.shape t
-has setup (HostMask p) = ltb p.0 setup.pages && ltb p.0 64
-has setup (VinaWord v t) = known setup v && upper setup.shape t
-has setup (Asserted v t) = known setup v && upper setup.shape t
 
--- A number for each place, rising along the sequence with gaps: a processor has 100, 400 and four times 10 of them, a level 100, a page 10 and 1.
+-- A number for each place, rising along the sequence with gaps: a processor has 100, 400, 10 and 10 of them, a level 100, a page 10.
 abbrev pub context_rank : Processor → Level → ℕ
 context_rank v l = 500 + 400 * v.0 + 100 * l.0
 
@@ -147,10 +131,7 @@ rank (Mask p t) = 2100 + 10 * p.0 + t.0
 rank (Intercepts v t) = 2800 + 10 * v.0 + t.0
 rank (Cr0Mask v t) = 2900 + 10 * v.0 + 2 * t.0
 rank (Cr4Mask v t) = 2900 + 10 * v.0 + 2 * t.0 + 1
-rank (HostMask p) = 3000 + p.0
-rank (VinaWord v t) = 3100 + 10 * v.0 + t.0
-rank (Asserted v t) = 3200 + 10 * v.0 + t.0
 
 -- All ranks of a machine lie below this one.
 abbrev pub end_rank : Setup → ℕ
-end_rank setup = 3200 + 10 * setup.processors
+end_rank setup = 2900 + 10 * setup.processors

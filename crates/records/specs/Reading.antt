@@ -14,12 +14,11 @@ use Rattle.script.specs.LineForms.{said}
 use Rattle.script.specs.declared.Start.{Start}
 use Rattle.script.specs.declared.Start.TheVariants as start
 use Rattle.state.specs.Lent.{setup_of}
-use Rattle.records.specs.Places.{Place, PartitionEnabled, Mbec, Config, Active, Shared, Register, Tpr, Pending, Enabled, Secure, Reason, From, Rax, Rcx, Word, Mask, Intercepts, Cr0Mask, Cr4Mask, HostMask, VinaWord, Asserted, places, has, rank}
+use Rattle.records.specs.Places.{Place, PartitionEnabled, Mbec, Config, Active, Shared, Register, Tpr, Pending, Enabled, Secure, Reason, From, Rax, Rcx, Word, Mask, Intercepts, Cr0Mask, Cr4Mask, places, has, rank}
 use Rattle.records.specs.RecordTexts.{front}
 use Rattle.records.specs.Values.{state_from}
 
--- A quantity that is yes or no is 0 or 1. (That `secure` is at most 3, that the bits 25..63 of `cri` are 0, that a mask is valid and that `asserted` is at
--- most 1 are clauses of well-formed states.)
+-- A quantity that is yes or no is 0 or 1. (That `secure` is at most 3, and that the bits 25..63 of `cri` are 0, are clauses of well-formed states.)
 unfoldable pub is_flag : Place → Bool
 is_flag (PartitionEnabled t) = true
 is_flag (Mbec t) = true
@@ -40,9 +39,6 @@ is_flag (Mask p t) = false
 is_flag (Intercepts v l) = false
 is_flag (Cr0Mask v l) = false
 is_flag (Cr4Mask v l) = false
-is_flag (HostMask p) = false
-is_flag (VinaWord v l) = false
-is_flag (Asserted v l) = false
 
 -- The number that follows after some bytes, which must be these.
 unfoldable pub number_after : List ℕ → List ℕ → Number

@@ -9,7 +9,7 @@ use Rattle.script.specs.Bytes.{bytes}
 use Rattle.script.specs.LineForms.{tab}
 use Rattle.script.specs.ListingLine.{cell, line_feed}
 use Rattle.script.specs.Texts.{first_line_of}
-use Rattle.records.specs.Places.{Place, PartitionEnabled, Mbec, Config, Active, Shared, Register, Tpr, Pending, Enabled, Secure, Reason, From, Rax, Rcx, Word, Mask, Intercepts, Cr0Mask, Cr4Mask, HostMask, VinaWord, Asserted, places}
+use Rattle.records.specs.Places.{Place, PartitionEnabled, Mbec, Config, Active, Shared, Register, Tpr, Pending, Enabled, Secure, Reason, From, Rax, Rcx, Word, Mask, Intercepts, Cr0Mask, Cr4Mask, places}
 use Rattle.records.specs.Values.{setup_at, number, value_at}
 
 -- A record's word, and its indices. Of `crm` the third is 0 for CR0 and 4 for CR4.
@@ -40,9 +40,6 @@ head_of (Mask p t) = headed (bytes "mask") (p.0 ∷ t.0 ∷ [])
 head_of (Intercepts v l) = headed (bytes "cri") (v.0 ∷ l.0 ∷ [])
 head_of (Cr0Mask v l) = headed (bytes "crm") (v.0 ∷ l.0 ∷ 0 ∷ [])
 head_of (Cr4Mask v l) = headed (bytes "crm") (v.0 ∷ l.0 ∷ 4 ∷ [])
-head_of (HostMask p) = headed (bytes "host") (p.0 ∷ [])
-head_of (VinaWord v l) = headed (bytes "vina") (v.0 ∷ l.0 ∷ [])
-head_of (Asserted v l) = headed (bytes "asserted") (v.0 ∷ l.0 ∷ [])
 
 -- Numbers, each with a tab after it.
 unfoldable pub closed : List ℕ → List ℕ

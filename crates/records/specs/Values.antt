@@ -11,9 +11,9 @@ use Rattle.model.specs.declared.machine.Partition.{Partition}
 use Rattle.model.specs.declared.machine.VirtualProcessor.{VirtualProcessor}
 use Rattle.model.specs.declared.quantity.Level.{Level}
 use Rattle.model.specs.declared.set.LevelSet.{LevelSet}
-use Rattle.model.specs.State.{State, level, level_set, shape, vp, context, past_vp, past_context, active, enabled_for, mbec_for, enabled_on, config_of, mask_of, host_mask_of, word_of, secure_of}
+use Rattle.model.specs.State.{State, level, level_set, shape, vp, context, past_vp, past_context, active, enabled_for, mbec_for, enabled_on, config_of, mask_of, word_of, secure_of}
 use Rattle.script.specs.EventForms.{processor, page}
-use Rattle.records.specs.Places.{Place, PartitionEnabled, Mbec, Config, Active, Shared, Register, Tpr, Pending, Enabled, Secure, Reason, From, Rax, Rcx, Word, Mask, Intercepts, Cr0Mask, Cr4Mask, HostMask, VinaWord, Asserted, known}
+use Rattle.records.specs.Places.{Place, PartitionEnabled, Mbec, Config, Active, Shared, Register, Tpr, Pending, Enabled, Secure, Reason, From, Rax, Rcx, Word, Mask, Intercepts, Cr0Mask, Cr4Mask, known}
 
 -- What the first record says of a state.
 abbrev pub setup_at : State → Setup
@@ -49,9 +49,6 @@ value_at s (Mask p t) = mask_of s t.0 p.0
 value_at s (Intercepts v l) = (context (shape s) (vp s v.0) l.0).watch.intercepts
 value_at s (Cr0Mask v l) = (context (shape s) (vp s v.0) l.0).watch.cr0_mask
 value_at s (Cr4Mask v l) = (context (shape s) (vp s v.0) l.0).watch.cr4_mask
-value_at s (HostMask p) = host_mask_of s p.0
-value_at s (VinaWord v l) = (context (shape s) (vp s v.0) l.0).vina.word
-value_at s (Asserted v l) = (context (shape s) (vp s v.0) l.0).vina.asserted
 
 -- A list by its entries.
 unfoldable pub table : {A : Type 0} → ℕ → (ℕ → A) → List A
@@ -72,7 +69,6 @@ context_from g v l = record {
   secure = table 4 (λ k. g (Secure v l (level k)));
   control = record { reason = g (Reason v l); from = level (g (From v l)); rax = g (Rax v l); rcx = g (Rcx v l) };
   watch = record { intercepts = g (Intercepts v l); cr0_mask = g (Cr0Mask v l); cr4_mask = g (Cr4Mask v l) };
-  vina = record { word = g (VinaWord v l); asserted = g (Asserted v l) };
 }
 
 -- A processor. Level 0 is enabled on each.
@@ -84,17 +80,13 @@ vp_from setup g v = record {
   contexts = table 4 (λ l. context_from g v (level l));
 }
 
--- The masks of a page: the host's in the place of level 0, which has none (02, request 7), and those of the levels from 1.
-abbrev pub mask_place : ℕ → ℕ → Place
-mask_place p t = cond (eqb t 0) (HostMask (page p)) (Mask (page p) (level t))
-
 -- What the partition holds. Level 0 is enabled, and the partition has no MBEC for it.
 abbrev pub partition_from : (Place → ℕ) → Partition
 partition_from g = record {
   enabled = set_from true (λ l. g (PartitionEnabled l));
   mbec = set_from false (λ l. g (Mbec l));
   configs = table 4 (λ l. g (Config (level l)));
-  masks = table 256 (λ i. g (mask_place (i / 4) (i % 4)));
+  masks = table 256 (λ i. g (Mask (page (i / 4)) (level (i % 4))));
 }
 
 unfoldable pub state_from : Setup → (Place → ℕ) → State

@@ -11,7 +11,7 @@ pub use Rattle.records.specs.declared.place.Next.{Next}
 pub use Rattle.records.specs.declared.place.Next.TheVariants.{At, Done}
 pub use Rattle.records.specs.declared.place.Upper.{Upper}
 pub use Rattle.records.specs.declared.place.Upper.TheVariants.{On, Nowhere}
-use Rattle.records.specs.Places.{Place, PartitionEnabled, Mbec, Config, Active, Shared, Register, Tpr, Pending, Enabled, Secure, Reason, From, Rax, Rcx, Word, Mask, Intercepts, Cr0Mask, Cr4Mask, HostMask, VinaWord, Asserted, private_count}
+use Rattle.records.specs.Places.{Place, PartitionEnabled, Mbec, Config, Active, Shared, Register, Tpr, Pending, Enabled, Secure, Reason, From, Rax, Rcx, Word, Mask, Intercepts, Cr0Mask, Cr4Mask, private_count}
 
 -- The levels from 1 of all processors: the first one from a processor on, and from a level of a processor on.
 abbrev pub upper_from : Setup → ℕ → Upper
@@ -25,20 +25,11 @@ abbrev pub placed : (Processor → Level → Place) → Next → Upper → Next
 placed place end (On v t) = At (place v t)
 placed place end Nowhere = end
 
-abbrev pub to_asserted : Upper → Next
-to_asserted upper = placed Asserted Done upper
-
-abbrev pub to_vina_word : Setup → Upper → Next
-to_vina_word setup upper = placed VinaWord (to_asserted (upper_from setup 0)) upper
-
-unfoldable pub to_host_mask : Setup → ℕ → Next
-to_host_mask setup p = cond (ltb p setup.pages) (At (HostMask (page p))) (to_vina_word setup (upper_from setup 0))
-
-abbrev pub to_cr_mask : Setup → Upper → Next
-to_cr_mask setup upper = placed Cr0Mask (to_host_mask setup 0) upper
+abbrev pub to_cr_mask : Upper → Next
+to_cr_mask upper = placed Cr0Mask Done upper
 
 abbrev pub to_intercepts : Setup → Upper → Next
-to_intercepts setup upper = placed Intercepts (to_cr_mask setup (upper_from setup 0)) upper
+to_intercepts setup upper = placed Intercepts (to_cr_mask (upper_from setup 0)) upper
 
 unfoldable pub to_page : Setup → ℕ → Next
 to_page setup p = cond (ltb p setup.pages) (At (Word (page p))) (to_intercepts setup (upper_from setup 0))
@@ -91,10 +82,7 @@ next_of setup (Word p) = to_mask setup p 1
 next_of setup (Mask p t) = to_mask setup p (t.0 + 1)
 next_of setup (Intercepts v t) = to_intercepts setup (upper_at setup v (t.0 + 1))
 next_of setup (Cr0Mask v t) = At (Cr4Mask v t)
-next_of setup (Cr4Mask v t) = to_cr_mask setup (upper_at setup v (t.0 + 1))
-next_of setup (HostMask p) = to_host_mask setup (p.0 + 1)
-next_of setup (VinaWord v t) = to_vina_word setup (upper_at setup v (t.0 + 1))
-next_of setup (Asserted v t) = to_asserted (upper_at setup v (t.0 + 1))
+next_of setup (Cr4Mask v t) = to_cr_mask (upper_at setup v (t.0 + 1))
 
 abbrev pub first_due : Setup → Next
 first_due setup = to_level setup 1

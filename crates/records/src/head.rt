@@ -10,9 +10,9 @@ const OF_CR0: u64 = 0;
 
 const OF_CR4: u64 = 4;
 
-// A word and its tab, in the first of nine bytes, and how many bytes they take.
+// A word and its tab, in the first of eight bytes, and how many bytes they take.
 #[derive(Drop)]
-pub struct WordText(pub [u8; 9], pub usize);
+pub struct WordText(pub [u8; 8], pub usize);
 
 // At most three indices: the first `count` numbers.
 #[derive(Drop)]
@@ -27,28 +27,25 @@ pub fn word_of(place: Place) -> WordText
     ensures within { result.1 ≤ length result.0 }
 {
     match place {
-        Place::PartitionEnabled(_) => WordText(*b"enabled\t ", 8),
-        Place::Mbec(_) => WordText(*b"mbec\t    ", 5),
-        Place::Config(_) => WordText(*b"config\t  ", 7),
-        Place::Active(_) => WordText(*b"active\t  ", 7),
-        Place::Shared(_, _) => WordText(*b"shared\t  ", 7),
-        Place::Register(_, _, _) => WordText(*b"reg\t     ", 4),
-        Place::Tpr(_, _) => WordText(*b"tpr\t     ", 4),
-        Place::Pending(_, _, _) => WordText(*b"pend\t    ", 5),
-        Place::Enabled(_, _) => WordText(*b"enabled\t ", 8),
-        Place::Secure(_, _, _) => WordText(*b"secure\t  ", 7),
-        Place::Reason(_, _) => WordText(*b"reason\t  ", 7),
-        Place::From(_, _) => WordText(*b"from\t    ", 5),
-        Place::Rax(_, _) => WordText(*b"rax\t     ", 4),
-        Place::Rcx(_, _) => WordText(*b"rcx\t     ", 4),
-        Place::Word(_) => WordText(*b"word\t    ", 5),
-        Place::Mask(_, _) => WordText(*b"mask\t    ", 5),
-        Place::Intercepts(_, _) => WordText(*b"cri\t     ", 4),
-        Place::Cr0Mask(_, _) => WordText(*b"crm\t     ", 4),
-        Place::Cr4Mask(_, _) => WordText(*b"crm\t     ", 4),
-        Place::HostMask(_) => WordText(*b"host\t    ", 5),
-        Place::VinaWord(_, _) => WordText(*b"vina\t    ", 5),
-        Place::Asserted(_, _) => WordText(*b"asserted\t", 9),
+        Place::PartitionEnabled(_) => WordText(*b"enabled\t", 8),
+        Place::Mbec(_) => WordText(*b"mbec\t   ", 5),
+        Place::Config(_) => WordText(*b"config\t ", 7),
+        Place::Active(_) => WordText(*b"active\t ", 7),
+        Place::Shared(_, _) => WordText(*b"shared\t ", 7),
+        Place::Register(_, _, _) => WordText(*b"reg\t    ", 4),
+        Place::Tpr(_, _) => WordText(*b"tpr\t    ", 4),
+        Place::Pending(_, _, _) => WordText(*b"pend\t   ", 5),
+        Place::Enabled(_, _) => WordText(*b"enabled\t", 8),
+        Place::Secure(_, _, _) => WordText(*b"secure\t ", 7),
+        Place::Reason(_, _) => WordText(*b"reason\t ", 7),
+        Place::From(_, _) => WordText(*b"from\t   ", 5),
+        Place::Rax(_, _) => WordText(*b"rax\t    ", 4),
+        Place::Rcx(_, _) => WordText(*b"rcx\t    ", 4),
+        Place::Word(_) => WordText(*b"word\t   ", 5),
+        Place::Mask(_, _) => WordText(*b"mask\t   ", 5),
+        Place::Intercepts(_, _) => WordText(*b"cri\t    ", 4),
+        Place::Cr0Mask(_, _) => WordText(*b"crm\t    ", 4),
+        Place::Cr4Mask(_, _) => WordText(*b"crm\t    ", 4),
     }
 }
 
@@ -108,8 +105,5 @@ pub fn indices_of(place: Place) -> Indices
         Place::Intercepts(v, l) => two(v.0, l.0),
         Place::Cr0Mask(v, l) => three(v.0, l.0, OF_CR0),
         Place::Cr4Mask(v, l) => three(v.0, l.0, OF_CR4),
-        Place::HostMask(p) => one(p.0),
-        Place::VinaWord(v, l) => two(v.0, l.0),
-        Place::Asserted(v, l) => two(v.0, l.0),
     }
 }

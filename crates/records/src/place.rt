@@ -38,12 +38,6 @@ pub enum Place {
     // `crm` with 0, and with 4: its masks for writes of CR0 and of CR4 (02, request 6)
     Cr0Mask(Processor, Level),
     Cr4Mask(Processor, Level),
-    // `host`: the host's mask of the page (02, request 7)
-    HostMask(Page),
-    // `vina`: the level's VINA word (02, request 8)
-    VinaWord(Processor, Level),
-    // `asserted`: is its VINA state asserted? 0 or 1 (02, request 8)
-    Asserted(Processor, Level),
 }
 
 // The place whose record is due next, if there is one.

@@ -3,7 +3,7 @@
 // places and machines of any numbers.
 ghost use Rattle.std.specs.Prelude.{◌≡◌, ◌+◌};
 ghost use Rattle.records.specs.Places.{private_count};
-ghost use Rattle.records.specs.Walk.{upper_from, upper_at, to_asserted, to_vina_word, to_host_mask, to_cr_mask, to_intercepts};
+ghost use Rattle.records.specs.Walk.{upper_from, upper_at, to_cr_mask, to_intercepts};
 ghost use Rattle.records.specs.Walk.{to_page, to_mask, to_contexts, to_context, to_register, to_pending, to_secure};
 ghost use Rattle.records.specs.Walk.{to_processor, to_shared, to_level, next_of, first_due};
 
@@ -44,48 +44,12 @@ fn upper_after(setup: Setup, vp: Processor, level: Level) -> Upper
     Upper::Nowhere
 }
 
-fn to_asserted(upper: Upper) -> Next
-    ensures { result ≡ to_asserted upper }
-{
-    match upper {
-        Upper::On(v, t) => Next::At(Place::Asserted(v, t)),
-        Upper::Nowhere => Next::Done,
-    }
-}
-
-fn to_vina_word(setup: Setup, upper: Upper) -> Next
-    ensures { result ≡ to_vina_word setup upper }
-{
-    match upper {
-        Upper::On(v, t) => Next::At(Place::VinaWord(v, t)),
-        Upper::Nowhere => to_asserted(upper_from(setup, Processor(0))),
-    }
-}
-
-fn to_host_mask(setup: Setup, page: Page) -> Next
-    ensures { result ≡ to_host_mask setup page.0 }
-{
-    if page.0 < setup.pages {
-        return Next::At(Place::HostMask(page));
-    }
-    to_vina_word(setup, upper_from(setup, Processor(0)))
-}
-
-fn after_host_mask(setup: Setup, page: Page) -> Next
-    ensures { result ≡ to_host_mask setup (page.0 + 1) }
-{
-    if page.0 < setup.pages {
-        return to_host_mask(setup, Page(page.0 + 1));
-    }
-    to_vina_word(setup, upper_from(setup, Processor(0)))
-}
-
-fn to_cr_mask(setup: Setup, upper: Upper) -> Next
-    ensures { result ≡ to_cr_mask setup upper }
+fn to_cr_mask(upper: Upper) -> Next
+    ensures { result ≡ to_cr_mask upper }
 {
     match upper {
         Upper::On(v, t) => Next::At(Place::Cr0Mask(v, t)),
-        Upper::Nowhere => to_host_mask(setup, Page(0)),
+        Upper::Nowhere => Next::Done,
     }
 }
 
@@ -94,7 +58,7 @@ fn to_intercepts(setup: Setup, upper: Upper) -> Next
 {
     match upper {
         Upper::On(v, t) => Next::At(Place::Intercepts(v, t)),
-        Upper::Nowhere => to_cr_mask(setup, upper_from(setup, Processor(0))),
+        Upper::Nowhere => to_cr_mask(upper_from(setup, Processor(0))),
     }
 }
 
@@ -257,9 +221,6 @@ pub fn next(setup: Setup, place: Place) -> Next
         Place::Mask(p, t) => after_mask(setup, p, t),
         Place::Intercepts(v, t) => to_intercepts(setup, upper_after(setup, v, t)),
         Place::Cr0Mask(v, t) => Next::At(Place::Cr4Mask(v, t)),
-        Place::Cr4Mask(v, t) => to_cr_mask(setup, upper_after(setup, v, t)),
-        Place::HostMask(p) => after_host_mask(setup, p),
-        Place::VinaWord(v, t) => to_vina_word(setup, upper_after(setup, v, t)),
-        Place::Asserted(v, t) => to_asserted(upper_after(setup, v, t)),
+        Place::Cr4Mask(v, t) => to_cr_mask(upper_after(setup, v, t)),
     }
 }

@@ -3,6 +3,7 @@
 // only then the record changes. The last condition of rreg and wreg, 9, is that a level watches the register (02, request 6): that level
 // is entered, reason 2, and the register keeps its value.
 ghost use Rattle.std.specs.Prelude.{◌≡◌, List, ℕ};
+ghost use Rattle.model.specs.declared.answer.Answer.TheVariants.{Intercept};
 ghost use Rattle.model.specs.declared.event.Action.TheVariants.{Secure, Rreg, Wreg, Tpr};
 ghost use Rattle.model.specs.Entry.{enter, by_interrupt};
 ghost use Rattle.model.specs.State.{State, partition as partition_in};
@@ -68,12 +69,14 @@ pub fn secure(
     Answer::Done(0)
 }
 
-// 9: the level that watches the register is entered, and nothing else changes. It gives no answer: one that comes from a call would be copied
-// through memory in every rreg and wreg.
-fn intercept(shape: Shape, vp: &mut Record, receiver: Level)
-    ensures { vp_of vp.new ≡ enter shape (vp_of vp.old) receiver.0 by_interrupt }
+// 9: the level that watches the register is entered, and nothing else changes.
+fn intercept(shape: Shape, vp: &mut Record, receiver: Level) -> Answer
+    ensures* answer { λ r. ⌜ r ≡ Intercept receiver ⌝ }
+    ensures* entered { λ _. ⌜ vp_of vp.new
+        ≡ enter shape (vp_of vp.old) receiver.0 by_interrupt ⌝ }
 {
     entry::enter(shape, vp, receiver, BY_INTERRUPT);
+    Answer::Intercept(receiver)
 }
 
 // rreg: the value is the register.
@@ -105,8 +108,7 @@ pub fn rreg(shape: Shape, vp: &mut Record, mode: Mode, target: Level, register: 
         receiver = read_watcher(shape, vp, target, register);
     }
     if receiver.0 < NO_LEVEL {
-        intercept(shape, vp, receiver);
-        return Answer::Intercept(receiver);
+        return intercept(shape, vp, receiver);
     }
     Answer::Done(register_of(shape, vp, target, register))
 }
@@ -151,8 +153,7 @@ pub fn wreg(
         receiver = write_watcher(shape, vp, target, register, value);
     }
     if receiver.0 < NO_LEVEL {
-        intercept(shape, vp, receiver);
-        return Answer::Intercept(receiver);
+        return intercept(shape, vp, receiver);
     }
     set_register(shape, vp, target, register, value);
     Answer::Done(0)

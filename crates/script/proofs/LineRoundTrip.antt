@@ -12,8 +12,8 @@ use lib.ListN.{length, length-append}
 use Rattle.decimal.specs.Write.{decimal}
 use Rattle.model.specs.declared.answer.Refusal.{Refusal}
 use Rattle.model.specs.declared.event.Event.{Event}
-use Rattle.model.specs.declared.event.Action.TheVariants.{Enpart, Envp, Call, Ret, Read, Write, Fetch, Protect, Config, Secure, Flush, Rreg, Wreg, Tpr, Ack, Pstat, Vstat, Caps, Cri, Crm, Vina, Vclear}
-use Rattle.model.specs.declared.event.Event.TheVariants.{Made, Int, Host}
+use Rattle.model.specs.declared.event.Action.TheVariants.{Enpart, Envp, Call, Ret, Read, Write, Fetch, Protect, Config, Secure, Flush, Rreg, Wreg, Tpr, Ack, Pstat, Vstat, Caps, Cri, Crm}
+use Rattle.model.specs.declared.event.Event.TheVariants.{Made, Int}
 use Rattle.model.specs.declared.machine.FirstLine.{FirstLine}
 use Rattle.script.specs.Bytes.{same}
 use Rattle.script.specs.EventForms.{events, line_event}
@@ -69,14 +69,11 @@ sound (Made v mode (Wreg g r x)) = record { no-tab = refl; short = refl; found =
 sound (Made v mode (Tpr class)) = record { no-tab = refl; short = refl; found = refl; made_of = refl }
 sound (Made v mode Ack) = record { no-tab = refl; short = refl; found = refl; made_of = refl }
 sound (Int w g vector) = record { no-tab = refl; short = refl; found = refl; made_of = refl }
-sound (Host p mask) = record { no-tab = refl; short = refl; found = refl; made_of = refl }
 sound (Made v mode Pstat) = record { no-tab = refl; short = refl; found = refl; made_of = refl }
 sound (Made v mode Vstat) = record { no-tab = refl; short = refl; found = refl; made_of = refl }
 sound (Made v mode Caps) = record { no-tab = refl; short = refl; found = refl; made_of = refl }
 sound (Made v mode (Cri word)) = record { no-tab = refl; short = refl; found = refl; made_of = refl }
 sound (Made v mode (Crm n mask)) = record { no-tab = refl; short = refl; found = refl; made_of = refl }
-sound (Made v mode (Vina word)) = record { no-tab = refl; short = refl; found = refl; made_of = refl }
-sound (Made v mode Vclear) = record { no-tab = refl; short = refl; found = refl; made_of = refl }
 
 -- The line of an event says the event, where its numbers are below 2^64.
 pub event-round-trip : (e : Event) → Numbers (event_text e).numbers → line_event (event_line e) ≡ parsed.Event e

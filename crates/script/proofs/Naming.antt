@@ -13,8 +13,7 @@ use lib.Seq.{drop-cons, length-take-le}
 use Rattle.decimal.proofs.DigitReading.{and_parts}
 use Rattle.model.specs.declared.answer.Refusal.{Refusal}
 use Rattle.model.specs.declared.answer.Refusal.TheVariants.{LineTooLong, UnknownWord}
-use Rattle.script.specs.Bytes.{begun, bytes, same}
-use Rattle.script.specs.EventForms.{events, host, is_host_line, line_event, line_host}
+use Rattle.script.specs.Bytes.{begun, same}
 use Rattle.script.specs.LineForms.{Form, among, in_form, longest_line, said, tab}
 use Rattle.script.specs.NumberRows.{fields_after, until_tab}
 use Rattle.script.specs.Search.{until_byte}
@@ -62,15 +61,6 @@ module _ (line word : List ℕ) (i : ℕ) where
   unfolding begun
   line-closed h k = rw (drop_of_length-le line h, drop_of_length-le word k)
 
--- It does or does not whatever stands beyond the byte after the word.
-pub begun-taken : (n : ℕ) (line word : List ℕ) → length word < n → begun (take n line) word ≡ begun line word
-unfolding begun
-begun-taken zero line word h = absurd (omega arith)
-begun-taken (suc n) [] [] h = refl
-begun-taken (suc n) [] (a ∷ word) h = refl
-begun-taken (suc n) (b ∷ line) [] h = refl
-begun-taken (suc n) (b ∷ line) (a ∷ word) h = rw (begun-taken n line word (omega arith))
-
 -- A word that has no tab.
 abbrev pub no_tab : List ℕ → Bool
 no_tab [] = true
@@ -97,11 +87,6 @@ begun-same (b ∷ line) (a ∷ word) h =
         → (eqb b a && begun line word) ≡ same (take (cond t 0 (suc (until_tab line))) (b ∷ line)) (a ∷ word)
     go true s plain ih = rw (other plain s)
     go false s plain ih = rw ih
-
--- The bytes that are kept of a long line say whether its first field is `host`.
-pub host-taken : (n : ℕ) (line : List ℕ) → 4 < n → is_host_line (take n line) ≡ is_host_line line
-unfolding is_host_line
-host-taken n line h = begun-taken n line (bytes "host") h
 
 pub begun-within : (line word : List ℕ) → begun line word ≡ true → length word ≤ length line
 begun-within line word e = ≤-of (ltb (length line) (length word)) refl
@@ -148,33 +133,6 @@ module _ {A R : Type 0} (good : A → R) (bad : Refusal → R) where
   pub too_long : (forms : List (Form A)) (line : List ℕ) → longest_line < length line → bad LineTooLong ≡ said good bad forms line
   unfolding said
   too_long forms line h = rw (lt-ltb longest_line (length line) h)
-
--- What a line with the first field `host` says.
-host-not-int : (line : List ℕ) → is_host_line line ≡ true → begun line (bytes "int") ≡ false
-unfolding is_host_line begun
-host-not-int [] h = differ h
-host-not-int (b ∷ line) h =
-    let (first, more) = and_parts (eqb b 104) _ h in
-    rw (ne_eqb b 105 (λ e. omega (arith, eqb-true b 104 first)))
-
-pub host-said : (line : List ℕ) → length line ≤ longest_line
-    → cond (is_host_line line) (in_form parsed.Event parsed.Malformed host (fields_after line 4)) (parsed.Malformed UnknownWord) ≡ line_host line
-unfolding line_host form_among is_host_line
-host-said line short = sym (line-said parsed.Event parsed.Malformed (host ∷ []) line refl short)
-
-pub host-as-event : (line : List ℕ) → is_host_line line ≡ true → line_host line ≡ line_event line
-unfolding line_event line_host form_among is_host_line
-host-as-event line h = go (ltb longest_line (length line)) refl
-  where
-    go : (t : Bool) → ltb longest_line (length line) ≡ t
-        → said parsed.Event parsed.Malformed (host ∷ []) line ≡ said parsed.Event parsed.Malformed events line
-    go true e =
-        let long = ltb-true longest_line (length line) e in
-        sym (too_long parsed.Event parsed.Malformed (host ∷ []) line long) ∙ too_long parsed.Event parsed.Malformed events line long
-    go false e =
-        let short = ltb-false longest_line (length line) e in
-        line-said parsed.Event parsed.Malformed (host ∷ []) line refl short
-        ∙ sym (line-said parsed.Event parsed.Malformed events line refl short ∙ rw (host-not-int line h, h))
 
 -- What a line says that begins with an event word, or with none.
 abbrev pub named_said : Named → List ℕ → Parsed

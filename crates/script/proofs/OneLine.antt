@@ -138,7 +138,7 @@ event-texts =
     (λ n. refl) and (λ n. refl) and (λ n. refl) and (λ n. refl) and (λ n. refl) and (λ n. refl) and (λ n. refl)
     and (λ n. refl) and (λ n. refl) and (λ n. refl) and (λ n. refl) and (λ n. refl) and (λ n. refl)
     and (λ n. refl) and (λ n. refl) and (λ n. refl) and (λ n. refl) and (λ n. refl) and (λ n. refl) and (λ n. refl)
-    and (λ n. refl) and (λ n. refl) and (λ n. refl) and (λ n. refl) and done
+    and (λ n. refl) and done
 
 pub one-event-line : (line : List ℕ) (e : Event) → line_event line ≡ parsed.Event e → line ≡ event_line e
 unfolding line_event event_line

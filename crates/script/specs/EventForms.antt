@@ -1,14 +1,14 @@
--- The lines of the twenty-four events (01, "Events"; 02, requests 6 to 8): each event's word and its fields, in the order of the page.
+-- The lines of the twenty-one events (01, "Events"; 02, request 6): each event's word and its fields, in the order of the page.
 -- An event carries its numbers as given: the event's rule refuses those out of range. Assumes nothing.
-use Rattle.std.specs.Prelude.{Bool, List, [], ◌∷◌, map, ℕ, zero, suc}
+use Rattle.std.specs.Prelude.{List, [], ◌∷◌, map, ℕ, zero, suc}
 use Rattle.model.specs.State.{level}
 pub use Rattle.model.specs.declared.event.Action.{Action}
 pub use Rattle.model.specs.declared.event.Event.{Event}
-pub use Rattle.model.specs.declared.event.Action.TheVariants.{Enpart, Envp, Call, Ret, Read, Write, Fetch, Protect, Config, Secure, Flush, Rreg, Wreg, Tpr, Ack, Pstat, Vstat, Caps, Cri, Crm, Vina, Vclear}
-pub use Rattle.model.specs.declared.event.Event.TheVariants.{Made, Int, Host}
+pub use Rattle.model.specs.declared.event.Action.TheVariants.{Enpart, Envp, Call, Ret, Read, Write, Fetch, Protect, Config, Secure, Flush, Rreg, Wreg, Tpr, Ack, Pstat, Vstat, Caps, Cri, Crm}
+pub use Rattle.model.specs.declared.event.Event.TheVariants.{Made, Int}
 use Rattle.model.specs.declared.quantity.Page.{Page}
 use Rattle.model.specs.declared.quantity.Processor.{Processor}
-use Rattle.script.specs.Bytes.{begun, bytes}
+use Rattle.script.specs.Bytes.{bytes}
 use Rattle.script.specs.LineForms.{Form, From, said}
 use Rattle.script.specs.declared.Parsed.{Parsed}
 use Rattle.script.specs.declared.Parsed.TheVariants as parsed
@@ -109,37 +109,17 @@ cri = record { word = bytes "cri"; count = 1; value = λ word. Cri word }
 abbrev pub crm : Form Action
 crm = record { word = bytes "crm"; count = 2; value = λ n mask. Crm n mask }
 
--- vina v mode word; vclear v mode (02, request 8)
-abbrev pub vina : Form Action
-vina = record { word = bytes "vina"; count = 1; value = λ word. Vina word }
-
-abbrev pub vclear : Form Action
-vclear = record { word = bytes "vclear"; count = 0; value = Vclear }
-
 -- What a level does.
 abbrev pub actions : List (Form Action)
-actions = enpart ∷ envp ∷ call ∷ ret ∷ read ∷ write ∷ fetch ∷ protect ∷ config ∷ secure ∷ flush ∷ rreg ∷ wreg ∷ tpr ∷ ack ∷ pstat ∷ vstat ∷ caps ∷ cri ∷ crm ∷ vina ∷ vclear ∷ []
+actions = enpart ∷ envp ∷ call ∷ ret ∷ read ∷ write ∷ fetch ∷ protect ∷ config ∷ secure ∷ flush ∷ rreg ∷ wreg ∷ tpr ∷ ack ∷ pstat ∷ vstat ∷ caps ∷ cri ∷ crm ∷ []
 
 -- int w g vector, from outside
 abbrev pub int : Form Event
 int = record { word = bytes "int"; count = 3; value = λ w g vector. Int (processor w) (level g) vector }
 
--- host p mask, from outside (02, request 7)
-abbrev pub host : Form Event
-host = record { word = bytes "host"; count = 2; value = λ p mask. Host (page p) mask }
-
 abbrev pub events : List (Form Event)
-events = int ∷ host ∷ map by_level actions
+events = int ∷ map by_level actions
 
 -- What a later line says: an event, or it is malformed, with the refusal. The word of a later vsm line is unknown.
 unfoldable pub line_event : List ℕ → Parsed
 line_event line = said parsed.Event parsed.Malformed events line
-
--- Whether the first field of a line is `host`, which keeps the time for host lines open (02, request 7). It is judged on the bytes up to the first
--- tab, or all of them where there is none: of malformed and too long lines as well. An empty line has another first field.
-unfoldable pub is_host_line : List ℕ → Bool
-is_host_line line = begun line (bytes "host")
-
--- What a line says where `host` is the only word that is known. Of a line with that first field it is what `line_event` says.
-unfoldable pub line_host : List ℕ → Parsed
-line_host line = said parsed.Event parsed.Malformed (host ∷ []) line

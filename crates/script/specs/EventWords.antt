@@ -1,20 +1,15 @@
 -- The event words as the code finds them: the form of each, and the word that a line begins with.
 -- Assumes nothing.
 use Rattle.std.specs.Prelude.{cond, List, [], ◌∷◌, map, ℕ, length}
-use Rattle.model.specs.declared.event.Event.TheVariants as event
 use Rattle.script.specs.Bytes.{begun}
-use Rattle.script.specs.EventForms.{Action, Event, by_level, enpart, envp, call, ret, read, write, fetch, protect, config, secure, flush, rreg, wreg, tpr, ack, int, host, pstat, vstat, caps, cri, crm, vina, vclear}
+use Rattle.script.specs.EventForms.{Action, Event, by_level, enpart, envp, call, ret, read, write, fetch, protect, config, secure, flush, rreg, wreg, tpr, ack, int, pstat, vstat, caps, cri, crm}
 use Rattle.script.specs.LineForms.{Form, made}
-use Rattle.script.specs.declared.HostLine.{HostLine}
-use Rattle.script.specs.declared.HostLine.TheVariants as host_line
-use Rattle.script.specs.declared.Parsed.{Parsed}
-use Rattle.script.specs.declared.Parsed.TheVariants as parsed
 use Rattle.script.specs.declared.words.Named.{Named}
 use Rattle.script.specs.declared.words.Named.TheVariants.{As, Nothing}
 use Rattle.script.specs.declared.words.Word.{Word}
-use Rattle.script.specs.declared.words.Word.TheVariants.{Host, Interrupt, Made}
+use Rattle.script.specs.declared.words.Word.TheVariants.{Interrupt, Made}
 use Rattle.script.specs.declared.words.ActionWord.{ActionWord}
-use Rattle.script.specs.declared.words.ActionWord.TheVariants.{Enpart, Envp, Call, Ret, Read, Write, Fetch, Protect, Config, Secure, Flush, Rreg, Wreg, Tpr, Ack, Pstat, Vstat, Caps, Cri, Crm, Vina, Vclear}
+use Rattle.script.specs.declared.words.ActionWord.TheVariants.{Enpart, Envp, Call, Ret, Read, Write, Fetch, Protect, Config, Secure, Flush, Rreg, Wreg, Tpr, Ack, Pstat, Vstat, Caps, Cri, Crm}
 
 -- The form of what a level does, by its word, and of an event.
 abbrev pub action_form : ActionWord → Form Action
@@ -38,28 +33,22 @@ action_form Vstat = vstat
 action_form Caps = caps
 action_form Cri = cri
 action_form Crm = crm
-action_form Vina = vina
-action_form Vclear = vclear
 
 abbrev pub form_of : Word → Form Event
 form_of (Made word) = by_level (action_form word)
 form_of Interrupt = int
-form_of Host = host
 
--- The twenty-four words.
+-- The twenty-one words.
 abbrev pub action_words : List ActionWord
 action_words =
-    Enpart ∷ Envp ∷ Call ∷ Ret ∷ Read ∷ Write ∷ Fetch ∷ Protect ∷ Config ∷ Secure ∷ Flush ∷ Rreg ∷ Wreg ∷ Tpr ∷ Ack ∷ Pstat ∷ Vstat ∷ Caps ∷ Cri ∷ Crm ∷ Vina ∷ Vclear ∷ []
+    Enpart ∷ Envp ∷ Call ∷ Ret ∷ Read ∷ Write ∷ Fetch ∷ Protect ∷ Config ∷ Secure ∷ Flush ∷ Rreg ∷ Wreg ∷ Tpr ∷ Ack ∷ Pstat ∷ Vstat ∷ Caps ∷ Cri ∷ Crm ∷ []
 
 abbrev pub words : List Word
-words = Interrupt ∷ Host ∷ map Made action_words
+words = Interrupt ∷ map Made action_words
 
--- Those that begin with c, and with v.
+-- Those that begin with c.
 abbrev pub words_with_c : List Word
 words_with_c = map Made (Call ∷ Config ∷ Caps ∷ Cri ∷ Crm ∷ [])
-
-abbrev pub words_with_v : List Word
-words_with_v = map Made (Vstat ∷ Vina ∷ Vclear ∷ [])
 
 -- A word, where it ends, and how many numbers its event takes.
 abbrev pub naming : Word → Named
@@ -76,8 +65,3 @@ action_of word numbers = made (action_form word).count (action_form word).value 
 
 abbrev pub event_of : Word → List ℕ → Event
 event_of word numbers = made (form_of word).count (form_of word).value 0 numbers
-
--- What a line with the first field `host` says, where the code looks for no other word (02, request 7).
-abbrev pub host_parsed : HostLine → Parsed
-host_parsed (host_line.Sets page mask) = parsed.Event (event.Host page mask)
-host_parsed (host_line.Malformed refusal) = parsed.Malformed refusal

@@ -3,7 +3,7 @@
 pub mod Bytes  -- words as bytes
 pub mod Records  -- the lines of a script
 pub mod LineForms  -- the fields of a line, and what a line of a known form says
-pub mod EventForms  -- the twenty-four events, and what a later line says
+pub mod EventForms  -- the twenty-one events, and what a later line says
 pub mod First  -- what the first line says
 pub mod Texts  -- the line of an event, and of a first line
 pub mod Search  -- where a byte next stands

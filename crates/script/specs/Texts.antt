@@ -2,8 +2,8 @@
 -- Assumes nothing.
 use Rattle.std.specs.Prelude.{List, [], ◌∷◌, ◌++◌, map, ℕ, ◌<◌, ◌^◌}
 use Rattle.decimal.specs.Write.{decimal}
-use Rattle.script.specs.EventForms.{Action, Enpart, Envp, Call, Ret, Read, Write, Fetch, Protect, Config, Secure, Flush, Rreg, Wreg, Tpr, Ack, Pstat, Vstat, Caps, Cri, Crm, Vina, Vclear}
-use Rattle.script.specs.EventForms.{Event, Made, Int, Host, by_level, enpart, envp, call, ret, read, write, fetch, protect, config, secure, flush, rreg, wreg, tpr, ack, int, host, pstat, vstat, caps, cri, crm, vina, vclear}
+use Rattle.script.specs.EventForms.{Action, Enpart, Envp, Call, Ret, Read, Write, Fetch, Protect, Config, Secure, Flush, Rreg, Wreg, Tpr, Ack, Pstat, Vstat, Caps, Cri, Crm}
+use Rattle.script.specs.EventForms.{Event, Made, Int, by_level, enpart, envp, call, ret, read, write, fetch, protect, config, secure, flush, rreg, wreg, tpr, ack, int, pstat, vstat, caps, cri, crm}
 use Rattle.script.specs.First.{FirstLine, vsm, vsm_short}
 use Rattle.script.specs.LineForms.{Form, tab}
 
@@ -51,13 +51,10 @@ action_text Vstat = text vstat []
 action_text Caps = text caps []
 action_text (Cri word) = text cri (word ∷ [])
 action_text (Crm n mask) = text crm (n ∷ mask ∷ [])
-action_text (Vina word) = text vina (word ∷ [])
-action_text Vclear = text vclear []
 
 unfoldable pub event_text : Event → Text Event
 event_text (Made v mode a) = text (by_level (action_text a).form) (v.0 ∷ mode ∷ (action_text a).numbers)
 event_text (Int w g vector) = text int (w.0 ∷ g.0 ∷ vector ∷ [])
-event_text (Host p mask) = text host (p.0 ∷ mask ∷ [])
 
 unfoldable pub event_line : Event → List ℕ
 event_line e = written (event_text e)

@@ -1,8 +1,7 @@
 // The lines of a script (01, "Script and listing"): a line as an event, and the first line as what a machine is made from. Every
 // function takes any arguments.
 ghost use Rattle.std.specs.Prelude.{◌≡◌, eqb, length};
-ghost use Rattle.script.specs.EventForms.{is_host_line, line_event, line_host};
-ghost use Rattle.script.specs.EventWords.{host_parsed};
+ghost use Rattle.script.specs.EventForms.{line_event};
 ghost use Rattle.script.specs.First.{first_form, line_first};
 ghost use Rattle.script.specs.NumberRows.{fields_after};
 
@@ -10,7 +9,7 @@ use crate::words::Named;
 use model::answer::Refusal;
 use model::event::Event;
 use model::machine::FirstLine;
-use model::quantity::{Level, Page};
+use model::quantity::Level;
 
 mod fields; // the fields of a line, and their numbers
 mod line_events; // the event of each word
@@ -31,18 +30,6 @@ pub enum Start {
     Malformed(Refusal),
 }
 
-// What a host line says (02, request 7), or why it says nothing.
-#[derive(Drop)]
-pub enum HostLine {
-    Sets { page: Page, mask: u64 },
-    Malformed(Refusal),
-}
-
-// Where the word `host` ends, and how many numbers follow it.
-const HOST_END: usize = 4;
-
-const HOST_TAKES: usize = 2;
-
 // The greatest length of a line without its line feed.
 pub const LONGEST_LINE: usize = 256;
 
@@ -61,34 +48,6 @@ pub fn parse(line: &[u8]) -> Parsed
         return Parsed::Malformed(fields::refusal(line, end, takes));
     }
     Parsed::Event(line_events::event(word, &values))
-}
-
-// Whether the first field of a line is `host` (02, request 7). Of a line too long its first bytes are enough.
-pub fn is_host_line(line: &[u8]) -> bool
-    ensures { result ≡ is_host_line line.now }
-{
-    words::begins(line, b"host")
-}
-
-// What a line says where `host` is the only word that is known. Of a line with that first field `parse` says the same: this is for the lines that come
-// while host lines are not late, so that the loop over later lines stays the only place that reads all words.
-pub fn parse_host(line: &[u8]) -> HostLine
-    ensures { host_parsed result ≡ line_host line.now }
-{
-    if LONGEST_LINE < line.len() {
-        return HostLine::Malformed(Refusal::LineTooLong);
-    }
-    if !is_host_line(line) {
-        return HostLine::Malformed(Refusal::UnknownWord);
-    }
-    let mut values = [0u64; 7];
-    if !fields::numbers(line, HOST_END, HOST_TAKES, &mut values) {
-        return HostLine::Malformed(fields::refusal(line, HOST_END, HOST_TAKES));
-    }
-    HostLine::Sets {
-        page: Page(values[0]),
-        mask: values[1],
-    }
 }
 
 // How many numbers follow the word `vsm`: six where the line has a seventh field, else five.

@@ -1,4 +1,4 @@
-// The event that a word and its numbers say (01, "Events"; 02, requests 6 to 8): the numbers of a line, in the order in which an event's fields are listed there.
+// The event that a word and its numbers say (01, "Events"; 02, request 6): the numbers of a line, in the order in which an event's fields are listed there.
 ghost use Rattle.std.specs.Prelude.{◌≡◌};
 ghost use Rattle.script.specs.EventWords.{action_of, event_of};
 
@@ -66,8 +66,6 @@ fn action(word: ActionWord, values: &[u64; 7]) -> Action
             control_register: third,
             mask,
         },
-        ActionWord::Vina => Action::Vina { word: third },
-        ActionWord::Vclear => Action::Vclear,
     }
 }
 
@@ -86,11 +84,6 @@ pub fn event(word: Word, values: &[u64; 7]) -> Event
             on: Processor(values[0]),
             target: Level(values[1]),
             vector: values[2],
-        },
-        // host p mask
-        Word::Host => Event::Host {
-            page: Page(values[0]),
-            mask: values[1],
         },
     }
 }

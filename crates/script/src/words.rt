@@ -1,7 +1,7 @@
 // The event words, compared byte for byte with the beginning of a line. The first byte says which few come into question.
 ghost use Rattle.std.specs.Prelude.{cond, ◌≡◌, length};
 ghost use Rattle.script.specs.Bytes.{begun};
-ghost use Rattle.script.specs.EventWords.{named_among, words, words_with_c, words_with_v};
+ghost use Rattle.script.specs.EventWords.{named_among, words, words_with_c};
 ghost use Rattle.script.specs.declared.words.Named.TheVariants.{As};
 
 // The words of the events that a level makes.
@@ -27,16 +27,13 @@ pub enum ActionWord {
     Caps,
     Cri,
     Crm,
-    Vina,
-    Vclear,
 }
 
-// The twenty-four event words: `int` and `host` come from outside.
+// The twenty-one event words: `int` comes from outside.
 #[derive(Drop)]
 pub enum Word {
     Made(ActionWord),
     Interrupt,
-    Host,
 }
 
 // The event word that a line begins with, where it ends, and how many numbers its event takes.
@@ -103,21 +100,6 @@ fn word_with_c(line: &[u8]) -> Named
     pick(line, b"call", Word::Made(ActionWord::Call), 3, config)
 }
 
-// The same among the words that begin with v. The second byte says whether it can be one of request 8.
-fn word_with_v(line: &[u8]) -> Named
-    ensures { result ≡ named_among words_with_v line.now }
-{
-    let none = Named::Nothing;
-    if line.len() < 2 {
-        return none;
-    }
-    if line[1] == b's' {
-        return pick(line, b"vstat", Word::Made(ActionWord::Vstat), 2, none);
-    }
-    let vclear = pick(line, b"vclear", Word::Made(ActionWord::Vclear), 2, none);
-    pick(line, b"vina", Word::Made(ActionWord::Vina), 3, vclear)
-}
-
 // The event word that a line begins with.
 pub fn word_of(line: &[u8]) -> Named
     ensures { result ≡ named_among words line.now }
@@ -137,7 +119,6 @@ pub fn word_of(line: &[u8]) -> Named
             let flush = pick(line, b"flush", Word::Made(ActionWord::Flush), 2, none);
             pick(line, b"fetch", Word::Made(ActionWord::Fetch), 3, flush)
         }
-        b'h' => pick(line, b"host", Word::Host, 2, none),
         b'i' => pick(line, b"int", Word::Interrupt, 3, none),
         b'p' => {
             let pstat = pick(line, b"pstat", Word::Made(ActionWord::Pstat), 2, none);
@@ -150,7 +131,7 @@ pub fn word_of(line: &[u8]) -> Named
         }
         b's' => pick(line, b"secure", Word::Made(ActionWord::Secure), 4, none),
         b't' => pick(line, b"tpr", Word::Made(ActionWord::Tpr), 3, none),
-        b'v' => word_with_v(line),
+        b'v' => pick(line, b"vstat", Word::Made(ActionWord::Vstat), 2, none),
         b'w' => {
             let wreg = pick(line, b"wreg", Word::Made(ActionWord::Wreg), 5, none);
             pick(line, b"write", Word::Made(ActionWord::Write), 4, wreg)

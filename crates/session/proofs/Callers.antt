@@ -5,7 +5,7 @@ use lib.Seq.{length-sets, sets, sets-eq}
 use Rattle.chunk.specs.Chunk.{held, kept_bytes}
 use Rattle.script.specs.ListingLine.{longest_record}
 use Rattle.session.specs.Calls.{Reached}
-use Rattle.session.specs.Session.{Ended, Progress, after, consumed, consumed_lines, early, fed, first, kept, later, progress_in, progress_of, state_in}
+use Rattle.session.specs.Session.{Ended, Progress, after, consumed, consumed_lines, fed, first, kept, later, progress_in, progress_of, state_in}
 use Rattle.session.specs.declared.Phase.{Phase}
 use Rattle.session.specs.declared.Phase.TheVariants as phase
 use Rattle.session.specs.declared.Session.{Session}
@@ -57,7 +57,6 @@ kept-session s = go s.phase
 
     go : (p : Phase) → kept (progress_in p s.number (state_in s) line) ≡ progress_in p s.number (state_in s) line
     go phase.First = ap first short
-    go phase.Early = ap (early s.number (state_in s)) short
     go phase.Later = ap (later s.number (state_in s)) short
     go phase.Stopped = refl
 

@@ -1,15 +1,14 @@
 -- Laws of the end of a line: what the code has of it, against the definitions. Assumes nothing.
 use Rattle.std.proofs.Common.{◌≡◌, ℕ, ◌+◌, ◌-◌, ◌%◌, ◌≤◌, min, Bool, true, false, cond, ◌&&◌, eqb, ltb, List, [], ◌∷◌, ◌++◌, length, get_or, take, drop, replicate, sym, refl, ap, ◌∙◌, arith, length-take, length-take-le, take_all, take_at, ltb-false, ltb-true, lt-ltb, eqb-true}
-use mathlib.Core.Bool.{and-false, false≢true}
+use mathlib.Core.Bool.{false≢true}
 use mathlib.Core.Option.{Option, none, some}
 use lib.ListN.{length-replicate, replicate-append-replicate}
 use Rattle.model.proofs.FreshFormed.{few-pages}
-use Rattle.model.proofs.HostLines.{host-keeps}
 use Rattle.model.proofs.Keeps.{step_keeps}
-use Rattle.model.specs.Answers.{number_of, refusal_number, value_of}
+use Rattle.model.specs.Answers.{refusal_number}
 use Rattle.model.specs.Fresh.{admissible, fresh}
 use Rattle.model.specs.State.{State, level, past_vp}
-use Rattle.model.specs.Step.{Outcome, hosted, next_for, step}
+use Rattle.model.specs.Step.{Outcome, next_for, step}
 use Rattle.model.specs.WellFormed.{well_formed}
 use Rattle.model.specs.declared.answer.Answer.{Answer}
 use Rattle.model.specs.declared.answer.Answer.TheVariants.{Refused}
@@ -19,38 +18,34 @@ use Rattle.model.specs.declared.event.Event.{Event}
 use Rattle.model.specs.declared.machine.FirstLine.{FirstLine}
 use Rattle.model.specs.declared.quantity.Level.{Level}
 use Rattle.model.specs.declared.quantity.Processor.{Processor}
-use Rattle.script.proofs.Naming.{host-taken}
-use Rattle.script.specs.EventForms.{Host, Int, Made, events, is_host_line, line_event}
+use Rattle.script.specs.EventForms.{events, line_event}
 use Rattle.script.specs.First.{first_form, line_first}
 use Rattle.script.specs.LineForms.{Form, fields, said, said_in}
 use Rattle.script.specs.declared.Parsed.{Parsed}
 use Rattle.script.specs.declared.Parsed.TheVariants as parsed
 use Rattle.script.specs.declared.Start.{Start}
 use Rattle.script.specs.declared.Start.TheVariants as start
-use Rattle.model.specs.declared.quantity.Page.{Page}
-use Rattle.step.proofs.KnownFormed.{hosted-as-if, step-as-if}
-use Rattle.step.specs.Stepped.{hosted_if, step_if}
+use Rattle.step.proofs.KnownFormed.{step-as-if}
+use Rattle.step.specs.Stepped.{step_if}
 use Rattle.session.specs.declared.Phase.{Phase}
 use Rattle.session.specs.declared.Phase.TheVariants as phase
 use Rattle.listing.proofs.LevelShown.{event-shown, level-column}
 use Rattle.listing.specs.Answer.{level_on, shown_by, shown_of}
-use Rattle.listing.specs.Listing.{Answered, answered, early_answered, number_after, record_of, state_by}
-use Rattle.model.specs.LevelColumn.{no_processor, processor_of}
-use Rattle.session.specs.SessionParts.{between, blank_in, has_stopped, is_early, is_past}
-use Rattle.session.specs.Session.{Ended, Progress, begun, continued, continued_early, early, ended, extended, first, is_stopped, kept, last_ended, later, lent_of, progress_in, room_for, stopped}
+use Rattle.listing.specs.Listing.{answered, number_after, record_of, state_by}
+use Rattle.model.specs.LevelColumn.{processor_of}
+use Rattle.session.specs.SessionParts.{blank_in, has_stopped, is_later}
+use Rattle.session.specs.Session.{Progress, begun, continued, ended, extended, first, is_stopped, kept, last_ended, later, lent_of, progress_in, room_for, stopped}
 use Rattle.chunk.specs.Chunk.{held}
 
 -- A session of each phase that holds no bytes, and one that takes more bytes.
 pub blank-in : (p : Phase) (number : ℕ) (s : State) → number ≡ 0 → progress_in p number s [] ≡ blank_in p s
 blank-in phase.First number s e = refl
-blank-in phase.Early number s e = rw e
 blank-in phase.Later number s e = rw e
 blank-in phase.Stopped number s e = refl
 
 pub keep-in : (p : Phase) (number : ℕ) (s : State) (line more line' : List ℕ) → line' ≡ take 257 (line ++ more)
     → progress_in p number s line' ≡ kept (extended (progress_in p number s line) more)
 keep-in phase.First number s line more line' e = rw e
-keep-in phase.Early number s line more line' e = rw e
 keep-in phase.Later number s line more line' e = rw e
 keep-in phase.Stopped number s line more line' e = refl
 
@@ -76,10 +71,6 @@ refused-next : (s : State) (e : Event) → well_formed s ≡ false → (step s e
 unfolding step next_for
 refused-next s e w = rw w
 
-refused-host : (s : State) (p k : ℕ) → well_formed s ≡ false → (hosted s p k).next ≡ s
-unfolding hosted
-refused-host s p k w = rw w
-
 -- The end of a first line that is malformed, and of one that is not admissible or is.
 pub first-malformed : (line : List ℕ) (refusal : Refusal) → line_first line ≡ start.Malformed refusal → ended (first line) ≡ begun none
 unfolding ended
@@ -98,22 +89,6 @@ pub ended_by : (number : ℕ) (s next : State) (line text : List ℕ) → next �
     → (later (number_after number) next [] ≡ (ended (later number s line)).progress) × (text ≡ (ended (later number s line)).text)
 unfolding ended
 ended_by number s next line text n t = (rw n, t)
-
--- The end of a host line that comes early, and of the line that ends the time for them.
-pub early-ended-by : (number : ℕ) (s next : State) (line text : List ℕ) → is_host_line line ≡ true → next ≡ (early_answered s (line_event line)).next
-    → text ≡ record_of number (early_answered s (line_event line))
-    → (early (number_after number) next [] ≡ (ended (early number s line)).progress) × (text ≡ (ended (early number s line)).text)
-unfolding ended
-early-ended-by number s next line text h n t = rw h (rw n, t)
-
-pub ended-late : (number : ℕ) (s : State) (line : List ℕ) → is_host_line line ≡ false → ended (early number s line) ≡ ended (later number s line)
-unfolding ended
-ended-late number s line h = rw h
-
--- Every other line is answered early as ever.
-pub told-early : (s : State) (line : List ℕ) (refusal : Refusal) → line_event line ≡ parsed.Malformed refusal
-    → early_answered s (line_event line) ≡ answered s (line_event line)
-told-early s line refusal e = rw e
 
 -- A line that is malformed: nothing changes.
 pub told-malformed : (s : State) (line : List ℕ) (refusal : Refusal) → line_event line ≡ parsed.Malformed refusal
@@ -147,96 +122,45 @@ module _ (s next : State) (e : Event) (formed : Bool) (well : formed ≡ well_fo
         → shown_of a on ≡ shown_by (answered s (parsed.Event e))
     told-shown v here on there = event-shown s next e a stepped v here on there
 
--- A host line that comes late: no processor is shown, so the level is 0.
-no-level : (processors : ℕ) (on : Level) → level 0 ≡ level_on no_processor processors on
-no-level processors on = rw (and-false (ltb 4 processors))
-
-pub told-late : (s next : State) (page : Page) (mask : ℕ) (formed : Bool) → formed ≡ well_formed s → (a : Answer)
-    → record { answer = a; next = next } ≡ step_if formed s (Host page mask)
-    → shown_of a (level 0) ≡ shown_by (answered s (parsed.Event (Host page mask)))
-told-late s next page mask formed well a done =
-    told-shown s next (Host page mask) formed well a done no_processor refl (level 0)
-    (no-level next.machine.processors (get_or next.machine.vps (no_processor.0 % 4) past_vp).active)
-
--- An early host line on a machine.
-module _ (s next : State) (page : Page) (mask : ℕ) (formed : Bool) (well : formed ≡ well_formed s) (a : Answer)
-    (done : record { answer = a; next = next } ≡ hosted_if formed s page.0 mask)
-  where
-    set : record { answer = a; next = next } ≡ hosted s page.0 mask
-    set = done ∙ hosted-as-if formed s page.0 mask well
-
-    pub host-next : next ≡ (early_answered s (parsed.Event (Host page mask))).next
-    host-next = ap (λ (o : Outcome). o.next) set
-
-    pub host-formed : formed ≡ well_formed next
-    host-formed = well ∙ go (well_formed s) refl ∙ sym (ap (λ (o : Outcome). well_formed o.next) set)
-      where
-        go : (b : Bool) → well_formed s ≡ b → well_formed s ≡ well_formed (hosted s page.0 mask).next
-        go true w = w ∙ sym (host-keeps s page.0 mask w)
-        go false w = sym (ap well_formed (refused-host s page.0 mask w))
-
-    pub host-shown : shown_of a (level 0) ≡ shown_by (early_answered s (parsed.Event (Host page mask)))
-    host-shown =
-        ap (λ (l : Level). record { answer = number_of a; value = value_of a; level = l }) (level-column (number_of a) 0 ∙ zero (eqb (number_of a) 1))
-        ∙ ap (λ (o : Outcome). record { answer = number_of o.answer; value = value_of o.answer; level = level 0 }) set
-      where
-        zero : (t : Bool) → level (cond t 0 0) ≡ level 0
-        zero true = refl
-        zero false = refl
-
--- At the end of a script: a line after the first that has no bytes, and any other line.
-pub last_none : (p : Phase) (number : ℕ) (s : State) (line : List ℕ) → (is_past p && eqb (length line) 0) ≡ true
+-- At the end of a script: a later line that has no bytes, and any other line.
+pub last_none : (p : Phase) (number : ℕ) (s : State) (line : List ℕ) → (is_later p && eqb (length line) 0) ≡ true
     → last_ended (progress_in p number s line) ≡ record { progress = progress_in p number s line; text = [] }
 last_none phase.First number s line e = absurd (false≢true e)
-last_none phase.Early number s line e = rw e
 last_none phase.Later number s line e = rw e
 last_none phase.Stopped number s line e = refl
 
-pub last_some : (p : Phase) (number : ℕ) (s : State) (line : List ℕ) → (is_past p && eqb (length line) 0) ≡ false
+pub last_some : (p : Phase) (number : ℕ) (s : State) (line : List ℕ) → (is_later p && eqb (length line) 0) ≡ false
     → last_ended (progress_in p number s line) ≡ ended (progress_in p number s line)
 unfolding ended
 last_some phase.First number s line e = refl
-last_some phase.Early number s line e = rw e
 last_some phase.Later number s line e = rw e
 last_some phase.Stopped number s line e = refl
 
--- A session past the first line that holds nothing of a line, one that has stopped, and one that has not.
-pub between_in : (p : Phase) (number : ℕ) (s : State) (buffer : List ℕ) (size : ℕ) → (is_past p && eqb size 0) ≡ true
-    → progress_in p number s (held buffer size) ≡ between (is_early p) number s
-between_in phase.First number s buffer size e = absurd (false≢true e)
-between_in phase.Early number s buffer size e = rw (eqb-true size 0 e)
-between_in phase.Later number s buffer size e = rw (eqb-true size 0 e)
-between_in phase.Stopped number s buffer size e = absurd (false≢true e)
-
--- A session that is late, and holds nothing: its number and its state.
-pub late-in : (p : Phase) (number : ℕ) (s : State) (line : List ℕ) (n : ℕ) (t : State) → progress_in p number s line ≡ later n t [] → later number s [] ≡ later n t []
-late-in phase.First number s line n t h = absurd (let z : ◌≡◌ {A = ℕ} 0 1 = cc in omega arith)
-late-in phase.Early number s line n t h = absurd (let z : ◌≡◌ {A = ℕ} 0 1 = cc in omega arith)
-late-in phase.Later number s line n t h = cc
-late-in phase.Stopped number s line n t h = absurd (let z : ◌≡◌ {A = ℕ} 0 1 = cc in omega arith)
+-- A session in a later line of which it holds nothing, one that has stopped, and one that has not.
+pub later-in : (p : Phase) (number : ℕ) (s : State) (buffer : List ℕ) (size : ℕ) → (is_later p && eqb size 0) ≡ true
+    → progress_in p number s (held buffer size) ≡ later number s []
+later-in phase.First number s buffer size e = absurd (false≢true e)
+later-in phase.Later number s buffer size e = rw (eqb-true size 0 e)
+later-in phase.Stopped number s buffer size e = absurd (false≢true e)
 
 pub stopped-in : (p : Phase) (number : ℕ) (s : State) (line : List ℕ) → has_stopped p ≡ true → progress_in p number s line ≡ stopped
 stopped-in phase.First number s line e = absurd (false≢true e)
-stopped-in phase.Early number s line e = absurd (false≢true e)
 stopped-in phase.Later number s line e = absurd (false≢true e)
 stopped-in phase.Stopped number s line e = refl
 
 pub phase-stopped : (p : Phase) (number : ℕ) (s : State) (line : List ℕ) → has_stopped p ≡ is_stopped (progress_in p number s line)
 phase-stopped phase.First number s line = refl
-phase-stopped phase.Early number s line = refl
 phase-stopped phase.Later number s line = refl
 phase-stopped phase.Stopped number s line = refl
 
 pub room_in : (p : Phase) (number : ℕ) (s : State) (line : List ℕ) → has_stopped p ≡ false → room_for (progress_in p number s line) ≡ 84
 room_in phase.First number s line e = refl
-room_in phase.Early number s line e = refl
 room_in phase.Later number s line e = refl
 room_in phase.Stopped number s line e = absurd (false≢true (sym e))
 
 -- After the end of a line no bytes of a line are held, and the session is not in the first line.
 bytes_of : Progress → List ℕ
 bytes_of (first line) = 0 ∷ line
-bytes_of (early number s line) = line
 bytes_of (later number s line) = line
 bytes_of stopped = []
 
@@ -248,21 +172,15 @@ begun-bytes (some s) = refl
 ended-bytes : (p : Progress) → bytes_of (ended p).progress ≡ []
 unfolding bytes_of ended
 ended-bytes (first line) = begun-bytes (state_by (line_first line))
-ended-bytes (early number s line) = go (is_host_line line)
-  where
-    go : (b : Bool) → bytes_of (cond b (continued_early number (early_answered s (line_event line))) (continued number (answered s (line_event line)))).progress ≡ []
-    go true = refl
-    go false = refl
 ended-bytes (later number s line) = refl
 ended-bytes stopped = refl
 
-pub ended-between : (q : Progress) (p : Phase) (number : ℕ) (s : State) (line : List ℕ) → has_stopped p ≡ false
-    → progress_in p number s line ≡ (ended q).progress → progress_in p number s line ≡ between (is_early p) number s
+pub ended-later : (q : Progress) (p : Phase) (number : ℕ) (s : State) (line : List ℕ) → has_stopped p ≡ false
+    → progress_in p number s line ≡ (ended q).progress → progress_in p number s line ≡ later number s []
 unfolding bytes_of
-ended-between q phase.First number s line e h = absurd (omega (arith, ap (λ (x : Progress). length (bytes_of x)) h, ap length (ended-bytes q)))
-ended-between q phase.Early number s line e h = ap (early number s) (ap bytes_of h ∙ ended-bytes q)
-ended-between q phase.Later number s line e h = ap (later number s) (ap bytes_of h ∙ ended-bytes q)
-ended-between q phase.Stopped number s line e h = absurd (false≢true (sym e))
+ended-later q phase.First number s line e h = absurd (omega (arith, ap (λ (x : Progress). length (bytes_of x)) h, ap length (ended-bytes q)))
+ended-later q phase.Later number s line e h = ap (later number s) (ap bytes_of h ∙ ended-bytes q)
+ended-later q phase.Stopped number s line e h = absurd (false≢true (sym e))
 
 -- The bytes that are kept of a line say what the line says, in forms that may depend on the line: one that is cut is too long in all.
 module _ {A R : Type 0} (good : A → R) (bad : Refusal → R) (forms : List ℕ → List (Form A)) (line : List ℕ) where
@@ -278,9 +196,5 @@ module _ {A R : Type 0} (good : A → R) (bad : Refusal → R) (forms : List ℕ
 pub ended-kept : (p : Progress) → ended (kept p) ≡ ended p
 unfolding ended line_event line_first
 ended-kept (first line) = ap (λ (x : Start). begun (state_by x)) (said-kept start.First start.Malformed (λ l. first_form (eqb (length (fields l)) 7) ∷ []) line)
-ended-kept (early number s line) =
-    let said = said-kept parsed.Event parsed.Malformed (λ l. events) line in
-    let field : is_host_line (take 257 line) ≡ is_host_line line = host-taken 257 line (omega arith) in
-    λ i. cond (field i) (continued_early number (early_answered s (said i))) (continued number (answered s (said i)))
 ended-kept (later number s line) = ap (λ (x : Parsed). continued number (answered s x)) (said-kept parsed.Event parsed.Malformed (λ l. events) line)
 ended-kept stopped = refl

@@ -7,16 +7,14 @@ use lib.Seq.{length-sets, sets}
 use Rattle.model.specs.State.{State}
 use Rattle.script.proofs.Cells.{line-at-most}
 use Rattle.script.proofs.StoredTexts.{sets-append}
-use Rattle.script.specs.EventForms.{is_host_line, line_event}
 use Rattle.script.specs.First.{line_first}
 use Rattle.script.specs.ListingLine.{line_feed}
 use Rattle.session.specs.declared.Fed.{Fed}
 use Rattle.chunk.specs.Chunk.{line_end}
-use Rattle.listing.specs.Listing.{Answered, answered, early_answered, state_by}
+use Rattle.listing.specs.Listing.{state_by}
 use Rattle.script.specs.Records.{lines_in}
 use Rattle.session.specs.SessionParts.{FedFrom}
-use Rattle.session.specs.Session.{Bounds, Ended, Feeding, Progress, begun, continued, continued_early, early, ended, extended, fed, fed_lines, first, followed, kept, later, progress_of, room_for, stopped}
-use Rattle.session.proofs.Ending.{ended-late}
+use Rattle.session.specs.Session.{Bounds, Ended, Feeding, Progress, begun, ended, extended, fed, fed_lines, first, followed, kept, later, progress_of, room_for, stopped}
 use Rattle.chunk.proofs.ChunkLines.{end-within, joined, lines_from, lines-last, lines-joined}
 
 -- A record has at most 84 bytes.
@@ -24,14 +22,9 @@ begun-at-most : (o : Option State) → length (begun o).text ≤ 84
 begun-at-most none = line-at-most 0 1 0 0
 begun-at-most (some s) = line-at-most 0 0 0 0
 
-early-at-most : (b : Bool) (number : ℕ) (a c : Answered) → length (cond b (continued_early number a) (continued number c)).text ≤ 84
-early-at-most true number a c = line-at-most number _ _ _
-early-at-most false number a c = line-at-most number _ _ _
-
 pub ended-at-most : (p : Progress) → length (ended p).text ≤ 84
 unfolding ended
 ended-at-most (first line) = begun-at-most (state_by (line_first line))
-ended-at-most (early number s line) = early-at-most (is_host_line line) number (early_answered s (line_event line)) (answered s (line_event line))
 ended-at-most (later number s line) = line-at-most number _ _ _
 ended-at-most stopped = omega arith
 
@@ -39,8 +32,6 @@ ended-at-most stopped = omega arith
 pub room_of : (p : Progress) (line : List ℕ) → length (ended (extended p line)).text ≤ room_for p
 unfolding ended
 room_of (first bytes) line = begun-at-most (state_by (line_first (bytes ++ line)))
-room_of (early number s bytes) line =
-    early-at-most (is_host_line (bytes ++ line)) number (early_answered s (line_event (bytes ++ line))) (answered s (line_event (bytes ++ line)))
 room_of (later number s bytes) line = line-at-most number _ _ _
 room_of stopped line = omega arith
 
@@ -61,15 +52,6 @@ module _ (p : Progress) (chunk : List ℕ) (i end room : ℕ) (h : i ≤ length 
       → fed p (drop i chunk) room ≡ record { progress = kept (extended p (drop i chunk)); used = length (drop i chunk); text = [] }
   unfolding fed fed_lines
   fed-last l = rw (lines-last chunk i end e h l)
-
--- The line that ends the time for host lines is a later one, where its record has room.
-pub fed-late : (number : ℕ) (s : State) (chunk : List ℕ) (i end room : ℕ) → i ≤ length chunk → end ≡ line_end chunk i → end < length chunk → 84 ≤ room
-    → is_host_line (take (end - i) (drop i chunk)) ≡ false → fed (early number s []) (drop i chunk) room ≡ fed (later number s []) (drop i chunk) room
-fed-late number s chunk i end room h e l r other =
-    let line = take (end - i) (drop i chunk) in
-    fed-line (early number s []) chunk i end room h e l r
-    ∙ ap (λ (x : Ended). followed line x.text (fed x.progress (drop (end + 1) chunk) (room - length x.text))) (ended-late number s line other)
-    ∙ sym (fed-line (later number s []) chunk i end room h e l r)
 
 -- A session that has stopped uses everything and writes nothing.
 stopped-lines : (lines : List (List ℕ)) (rest : List ℕ) (room : ℕ)

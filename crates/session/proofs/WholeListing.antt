@@ -5,15 +5,15 @@ use mathlib.Core.Option.{Option, none, some}
 use lib.Seq.{take-append-add, take-length}
 use Rattle.model.specs.State.{State}
 use Rattle.script.specs.Bytes.{same}
-use Rattle.script.specs.EventForms.{is_host_line, line_event}
+use Rattle.script.specs.EventForms.{line_event}
 use Rattle.script.specs.First.{line_first}
 use Rattle.script.specs.LineForms.{among, fields, numbers_in, said}
 use Rattle.chunk.specs.Chunk.{kept_bytes}
 use Rattle.script.specs.ListingLine.{line_feed, longest_record}
 use Rattle.session.specs.Calls.{Consumed, Cut, Reached, Whole, calls}
-use Rattle.listing.specs.Listing.{Answered, answered, early_answered, early_records, first_done, later_records, listing, listing_from, listing_of, number_after, record_of, state_by}
+use Rattle.listing.specs.Listing.{answered, first_done, later_records, listing, listing_from, listing_of, number_after, record_of, state_by}
 use Rattle.script.specs.Records.{Lines, in_front, last_line, lines, lines_in}
-use Rattle.session.specs.Session.{Ended, Feeding, Progress, after, begun, consumed, consumed_lines, continued, continued_early, early, ended, extended, fed, fed_lines, finished, first, followed, kept, last_ended, last_text, later, room_for, stopped}
+use Rattle.session.specs.Session.{Ended, Feeding, Progress, after, begun, consumed, consumed_lines, ended, extended, fed, fed_lines, finished, first, followed, kept, last_ended, last_text, later, room_for, stopped}
 use Rattle.chunk.proofs.ChunkLines.{joined, lines-joined, with_line}
 use Rattle.session.proofs.Ending.{ended-kept}
 
@@ -69,13 +69,11 @@ take-kept (suc n) (x ∷ a) b = ap (λ (l : List ℕ). x ∷ l) (take-kept n a b
 
 kept-extended : (p : Progress) (more : List ℕ) → kept (extended (kept p) more) ≡ kept (extended p more)
 kept-extended (first line) more = ap first (take-kept kept_bytes line more)
-kept-extended (early number s line) more = ap (early number s) (take-kept kept_bytes line more)
 kept-extended (later number s line) more = ap (later number s) (take-kept kept_bytes line more)
 kept-extended stopped more = refl
 
 extended-twice : (p : Progress) (line more : List ℕ) → extended (extended p line) more ≡ extended p (line ++ more)
 extended-twice (first bytes) line more = ap first (append_assoc bytes line more)
-extended-twice (early number s bytes) line more = ap (early number s) (append_assoc bytes line more)
 extended-twice (later number s bytes) line more = ap (later number s) (append_assoc bytes line more)
 extended-twice stopped line more = refl
 
@@ -88,7 +86,6 @@ ended-twice p line more =
 
 pub extended_none : (p : Progress) → extended p [] ≡ p
 extended_none (first line) = ap first (append-nil line)
-extended_none (early number s line) = ap (early number s) (append-nil line)
 extended_none (later number s line) = ap (later number s) (append-nil line)
 extended_none stopped = refl
 
@@ -96,14 +93,8 @@ extended_none stopped = refl
 pub last-bytes : (number : ℕ) (s : State) (byte : ℕ) (line : List ℕ) → last_ended (later number s (byte ∷ line)) ≡ ended (later number s (byte ∷ line))
 last-bytes number s byte line = rw (ne_eqb (suc (length line)) 0 (λ z. omega arith))
 
-pub last-early : (number : ℕ) (s : State) (byte : ℕ) (line : List ℕ) → last_ended (early number s (byte ∷ line)) ≡ ended (early number s (byte ∷ line))
-last-early number s byte line = rw (ne_eqb (suc (length line)) 0 (λ z. omega arith))
-
 pub last-kept : (p : Progress) → last_ended (kept p) ≡ last_ended p
 last-kept (first line) = ended-kept (first line)
-last-kept (early number s []) = refl
-last-kept (early number s (byte ∷ line)) =
-    last-early number s byte (take 256 line) ∙ ended-kept (early number s (byte ∷ line)) ∙ sym (last-early number s byte line)
 last-kept (later number s []) = refl
 last-kept (later number s (byte ∷ line)) =
     last-bytes number s byte (take 256 line) ∙ ended-kept (later number s (byte ∷ line)) ∙ sym (last-bytes number s byte line)
@@ -178,40 +169,6 @@ later-finished (line ∷ ls) rest number s =
     finished-after (record_of number a) (consumed_lines (later (number_after number) a.next []) ls rest)
     ∙ ap (λ (l : List ℕ). record_of number a ++ l) (later-finished ls rest (number_after number) a.next)
 
--- The same while host lines are not late.
-pub early-finished : (ls : List (List ℕ)) (rest : List ℕ) (number : ℕ) (s : State) → finished (consumed_lines (early number s []) ls rest) ≡ early_records number s (ls ++ last_line rest)
-unfolding consumed_lines later_records early_records ended
-early-finished [] [] number s = refl
-early-finished [] (byte ∷ rest) number s =
-    ap (λ (e : Ended). e.text) (last-kept (early number s (byte ∷ rest)) ∙ last-early number s byte rest) ∙ go (is_host_line (byte ∷ rest))
-  where
-    a : Answered
-    a = answered s (line_event (byte ∷ rest))
-
-    host : Answered
-    host = early_answered s (line_event (byte ∷ rest))
-
-    go : (b : Bool) → (cond b (continued_early number host) (continued number a)).text ≡ cond b (record_of number host ++ []) (record_of number a ++ [])
-    go true = sym (append-nil _)
-    go false = sym (append-nil _)
-early-finished (line ∷ ls) rest number s =
-    go (is_host_line line) (early-finished ls rest (number_after number) (early_answered s (line_event line)).next)
-  where
-    a : Answered
-    a = answered s (line_event line)
-
-    host : Answered
-    host = early_answered s (line_event line)
-
-    go : (b : Bool) → finished (consumed_lines (early (number_after number) host.next []) ls rest) ≡ early_records (number_after number) host.next (ls ++ last_line rest)
-        → let e = cond b (continued_early number host) (continued number a) in
-        finished (after e.text (consumed_lines e.progress ls rest))
-        ≡ cond b (record_of number host ++ early_records (number_after number) host.next (ls ++ last_line rest)) (later_records number s (line ∷ ls ++ last_line rest))
-    go true ih =
-        finished-after (record_of number host) (consumed_lines (early (number_after number) host.next []) ls rest)
-        ∙ ap (λ (l : List ℕ). record_of number host ++ l) ih
-    go false ih = later-finished (line ∷ ls) rest number s
-
 pub stopped-finished : (ls : List (List ℕ)) (rest : List ℕ) → finished (consumed_lines stopped ls rest) ≡ []
 unfolding consumed_lines ended
 stopped-finished [] rest = refl
@@ -219,7 +176,7 @@ stopped-finished (line ∷ ls) rest = stopped-finished ls rest
 
 -- What a fresh session writes is the listing.
 first-finished : (ls : List (List ℕ)) (rest : List ℕ) → finished (consumed_lines (first []) ls rest) ≡ listing_of (ls ++ last_line rest)
-unfolding consumed_lines ended early_records line_first said among fields numbers_in same
+unfolding consumed_lines ended later_records line_first said among fields numbers_in same
 first-finished [] [] = refl
 first-finished [] (byte ∷ rest) = ap (λ (e : Ended). e.text) (ended-kept (first (byte ∷ rest))) ∙ go (state_by (line_first (byte ∷ rest)))
   where
@@ -230,7 +187,7 @@ first-finished (line ∷ ls) rest = go (state_by (line_first line))
   where
     go : (o : Option State) → finished (after (begun o).text (consumed_lines (begun o).progress ls rest)) ≡ listing_from o (ls ++ last_line rest)
     go none = finished-after (begun none).text (consumed_lines stopped ls rest) ∙ ap (λ (l : List ℕ). (begun none).text ++ l) (stopped-finished ls rest) ∙ append-nil (begun none).text
-    go (some s) = finished-after first_done (consumed_lines (early 1 s []) ls rest) ∙ ap (λ (l : List ℕ). first_done ++ l) (early-finished ls rest 1 s)
+    go (some s) = finished-after first_done (consumed_lines (later 1 s []) ls rest) ∙ ap (λ (l : List ℕ). first_done ++ l) (later-finished ls rest 1 s)
 
 pub listing-consumed : Consumed
 unfolding consumed listing lines
@@ -250,7 +207,6 @@ whole run = let c = calls (first []) run in reached-finished c.input (cut run (f
 -- Where the longest record has room, something of a chunk is used.
 room-at-most : (p : Progress) → room_for p ≤ longest_record
 room-at-most (first line) = omega arith
-room-at-most (early number s line) = omega arith
 room-at-most (later number s line) = omega arith
 room-at-most stopped = omega arith
 

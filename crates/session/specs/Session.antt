@@ -4,13 +4,13 @@ use Rattle.std.specs.Prelude.{◌≡◌, ℕ, suc, ◌+◌, ◌-◌, ◌≤◌, 
 use Rattle.std.proofs.Math.Option.{Option, none, some}
 use Rattle.model.specs.State.{State}
 use Rattle.chunk.specs.Chunk.{held, kept_bytes}
-use Rattle.script.specs.EventForms.{is_host_line, line_event}
+use Rattle.script.specs.EventForms.{line_event}
 use Rattle.script.specs.First.{line_first}
 use Rattle.state.specs.Lent.{lent}
 use Rattle.session.specs.declared.Phase.{Phase}
 use Rattle.session.specs.declared.Phase.TheVariants as phase
 use Rattle.session.specs.declared.Session.{Session}
-use Rattle.listing.specs.Listing.{Answered, answered, early_answered, first_done, first_refused, number_after, record_of, state_by}
+use Rattle.listing.specs.Listing.{Answered, answered, first_done, first_refused, number_after, record_of, state_by}
 use Rattle.script.specs.ListingLine.{longest_record}
 use Rattle.script.specs.Records.{lines_in}
 
@@ -18,9 +18,7 @@ use Rattle.script.specs.Records.{lines_in}
 pub data Progress : Type 0 where
   -- in the first line
   first : List ℕ → Progress
-  -- in a line after it, while every line after the first has had the first field `host` (02, request 7): its number, and the state before it
-  early : ℕ → State → List ℕ → Progress
-  -- in a later line, where host lines are late
+  -- in a later line: its number, and the state before it
   later : ℕ → State → List ℕ → Progress
   -- after a refused first line
   stopped : Progress
@@ -28,7 +26,6 @@ pub data Progress : Type 0 where
 -- How far a session of a phase has come.
 abbrev pub progress_in : Phase → ℕ → State → List ℕ → Progress
 progress_in phase.First number s line = first line
-progress_in phase.Early number s line = early number s line
 progress_in phase.Later number s line = later number s line
 progress_in phase.Stopped number s line = stopped
 
@@ -47,21 +44,18 @@ progress_of s = progress_in s.phase s.number (state_in s) (held s.line s.length)
 -- Nothing is read after a refused first line.
 abbrev pub is_stopped : Progress → Bool
 is_stopped (first line) = false
-is_stopped (early number s line) = false
 is_stopped (later number s line) = false
 is_stopped stopped = true
 
 -- More bytes of the line.
 abbrev pub extended : Progress → List ℕ → Progress
 extended (first line) more = first (line ++ more)
-extended (early number s line) more = early number s (line ++ more)
 extended (later number s line) more = later number s (line ++ more)
 extended stopped more = stopped
 
 -- Of a line that goes on in the next chunk at most `kept_bytes` are kept: a line of that length is too long already, whatever follows.
 abbrev pub kept : Progress → Progress
 kept (first line) = first (take kept_bytes line)
-kept (early number s line) = early number s (take kept_bytes line)
 kept (later number s line) = later number s (take kept_bytes line)
 kept stopped = stopped
 
@@ -73,26 +67,20 @@ pub record Ended : Type 0 where
 -- The first line gives the state that it describes, or is refused; then the session stops.
 abbrev pub begun : Option State → Ended
 begun none = record { progress = stopped; text = first_refused }
-begun (some s) = record { progress = early 1 s []; text = first_done }
+begun (some s) = record { progress = later 1 s []; text = first_done }
 
--- A later line gives its answer's record and the next state; a host line that comes early as well, and the session stays early.
+-- A later line gives its answer's record and the next state.
 abbrev pub continued : ℕ → Answered → Ended
 continued number a = record { progress = later (number_after number) a.next []; text = record_of number a }
 
-abbrev pub continued_early : ℕ → Answered → Ended
-continued_early number a = record { progress = early (number_after number) a.next []; text = record_of number a }
-
 unfoldable pub ended : Progress → Ended
 ended (first line) = begun (state_by (line_first line))
-ended (early number s line) =
-    cond (is_host_line line) (continued_early number (early_answered s (line_event line))) (continued number (answered s (line_event line)))
 ended (later number s line) = continued number (answered s (line_event line))
 ended stopped = record { progress = stopped; text = [] }
 
 -- The room that the next record may need; a session that has stopped writes none.
 abbrev pub room_for : Progress → ℕ
 room_for (first line) = longest_record
-room_for (early number s line) = longest_record
 room_for (later number s line) = longest_record
 room_for stopped = 0
 
@@ -134,8 +122,6 @@ consumed p chunk = consumed_lines p (lines_in chunk).complete (lines_in chunk).r
 -- What the end of the input leaves and writes: a last line that lacks its line feed is ended, and so is the first line of an empty input.
 abbrev pub last_ended : Progress → Ended
 last_ended (first line) = ended (first line)
-last_ended (early number s line) =
-    cond (length line == 0) (record { progress = early number s line; text = [] }) (ended (early number s line))
 last_ended (later number s line) =
     cond (length line == 0) (record { progress = later number s line; text = [] }) (ended (later number s line))
 last_ended stopped = record { progress = stopped; text = [] }

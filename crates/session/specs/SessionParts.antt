@@ -1,54 +1,41 @@
 -- What the parts of the code give: a session made anew, one that goes on, a line that has ended, and a chunk from a place on.
 -- Assumes nothing.
-use Rattle.std.specs.Prelude.{◌≡◌, ℕ, ◌+◌, Bool, true, false, cond, List, [], length}
+use Rattle.std.specs.Prelude.{◌≡◌, ℕ, ◌+◌, Bool, true, false, List, [], length}
 use Rattle.std.proofs.lemmas.List.Edits.{sets}
 use Rattle.model.specs.State.{State}
 use Rattle.model.specs.WellFormed.{well_formed}
 use Rattle.listing.specs.Answer.{shown_by}
-use Rattle.listing.specs.Listing.{Answered}
+use Rattle.listing.specs.Listing.{answered}
 use Rattle.listing.specs.declared.Shown.{Shown}
+use Rattle.script.specs.declared.Parsed.{Parsed}
 use Rattle.session.specs.declared.Fed.{Fed}
 use Rattle.session.specs.declared.Phase.{Phase}
 use Rattle.session.specs.declared.Phase.TheVariants as phase
 use Rattle.session.specs.declared.Written.{Written}
-use Rattle.session.specs.Session.{Ended, Feeding, Progress, early, first, later, progress_of, stopped}
+use Rattle.session.specs.Session.{Ended, Feeding, Progress, first, later, progress_of, stopped}
 
 -- The phases of a session.
 abbrev pub has_stopped : Phase → Bool
 has_stopped phase.First = false
-has_stopped phase.Early = false
 has_stopped phase.Later = false
 has_stopped phase.Stopped = true
 
--- Past the first line.
-abbrev pub is_past : Phase → Bool
-is_past phase.First = false
-is_past phase.Early = true
-is_past phase.Later = true
-is_past phase.Stopped = false
-
-abbrev pub is_early : Phase → Bool
-is_early phase.First = false
-is_early phase.Early = true
-is_early phase.Later = false
-is_early phase.Stopped = false
-
--- A session past the first line that holds no bytes of a line: it is early, or late.
-abbrev pub between : Bool → ℕ → State → Progress
-between is_early number s = cond is_early (early number s []) (later number s [])
+abbrev pub is_later : Phase → Bool
+is_later phase.First = false
+is_later phase.Later = true
+is_later phase.Stopped = false
 
 -- A session of each phase that holds no bytes of a line.
 abbrev pub blank_in : Phase → State → Progress
 blank_in phase.First s = first []
-blank_in phase.Early s = early 0 s []
 blank_in phase.Later s = later 0 s []
 blank_in phase.Stopped s = stopped
 
 -- A line was answered: the next state, which is as well formed as the one before, and what is shown.
-pub record AnsweredBy (formed : Bool) (a : Answered) (r : Shown) (after : State) : Type 0 where
-  pub next : after ≡ a.next
+pub record AnsweredBy (formed : Bool) (parsed : Parsed) (r : Shown) (before after : State) : Type 0 where
+  pub next : after ≡ (answered before parsed).next
   pub kept : formed ≡ well_formed after
-  pub shown : r ≡ shown_by a
+  pub shown : r ≡ shown_by (answered before parsed)
 
 -- A line was ended: the session after it, and its record at the start of the buffer.
 pub record EndedBy (e : Ended) (r : Written) (before after : List ℕ) : Type 0 where

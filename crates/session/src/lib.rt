@@ -24,8 +24,6 @@ pub const LONGEST_RECORD: usize = 84;
 #[derive(Drop)]
 pub enum Phase {
     First,
-    // Every line after the first has had the first field `host` (02, request 7).
-    Early,
     Later,
     Stopped,
 }
@@ -162,8 +160,8 @@ pub fn feed(start: Session, chunk: &[u8], out: &mut [u8]) -> Fed
             wrote: 0,
         };
     }
-    if lines::is_past(phase) & (start.length == 0) {
-        return lines::feed_rest(start, chunk, 0, out, 0);
+    if lines::is_later(phase) & (start.length == 0) {
+        return lines::feed_later(start, chunk, 0, out, 0);
     }
     let end = chunk::line_end(chunk, 0);
     if chunk.len() <= end {
@@ -191,7 +189,7 @@ pub fn feed(start: Session, chunk: &[u8], out: &mut [u8]) -> Fed
             wrote: ended.wrote,
         };
     }
-    lines::feed_rest(next, chunk, end + 1, out, ended.wrote)
+    lines::feed_later(next, chunk, end + 1, out, ended.wrote)
 }
 
 // Ends the input: writes the record of a last line that lacks its line feed, or of an empty input, and says how many bytes that took.
@@ -204,7 +202,7 @@ pub fn finish(session: Session, out: &mut [u8; LONGEST_RECORD]) -> Written
     let phase = session.phase;
     let line = session.line;
     let held = chunk::held_length(&line, session.length);
-    if lines::is_past(phase) & (held == 0) {
+    if lines::is_later(phase) & (held == 0) {
         return Written { session, wrote: 0 };
     }
     let buffer: &mut [u8] = out;

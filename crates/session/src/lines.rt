@@ -3,15 +3,14 @@ ghost use Rattle.std.specs.Prelude.{◌≡◌, ◌-◌, ◌≤◌, true, [], ◌
 ghost use Rattle.std.proofs.Math.Option.{none, some};
 ghost use Rattle.model.specs.Fresh.{admissible, fresh};
 ghost use Rattle.state.specs.Lent.{lent};
-ghost use Rattle.session.specs.SessionParts.{EndedBy, FedFrom, between, blank_in, has_stopped, is_early, is_past};
-ghost use Rattle.session.specs.Session.{begun, early, ended, extended, fed, first, kept, later, lent_of};
+ghost use Rattle.session.specs.SessionParts.{EndedBy, FedFrom, blank_in, has_stopped, is_later};
+ghost use Rattle.session.specs.Session.{begun, ended, extended, fed, first, kept, later, lent_of};
 ghost use Rattle.session.specs.Session.{progress_in, progress_of, state_in};
 ghost use Rattle.chunk.specs.Chunk.{held};
-ghost use Rattle.script.specs.EventForms.{is_host_line};
 ghost use Rattle.script.specs.ListingLine.{listing_line, longest_record};
 ghost use Rattle.std.proofs.lemmas.List.Edits.{sets};
 
-use crate::line_answer::{answer_host, answer_line};
+use crate::line_answer::answer_line;
 use crate::{Fed, LONGEST_RECORD, Phase, Session, Written, lent_words, listing_record, records};
 use listing::Shown;
 use model::machine::FirstLine;
@@ -23,36 +22,23 @@ use script::Start;
 use state::fresh;
 use state::well_formed_state::well_formed;
 
-// Whether a session is in this phase: stopped after a refused first line, past the first line, and past it with host lines not yet late.
+// Whether a session is in this phase: stopped after a refused first line, or in a later line.
 pub(crate) fn has_stopped(phase: Phase) -> bool
     ensures { result ≡ has_stopped phase }
 {
     match phase {
         Phase::First => false,
-        Phase::Early => false,
         Phase::Later => false,
         Phase::Stopped => true,
     }
 }
 
-pub(crate) fn is_past(phase: Phase) -> bool
-    ensures { result ≡ is_past phase }
+pub(crate) fn is_later(phase: Phase) -> bool
+    ensures { result ≡ is_later phase }
 {
     match phase {
         Phase::First => false,
-        Phase::Early => true,
         Phase::Later => true,
-        Phase::Stopped => false,
-    }
-}
-
-fn is_early(phase: Phase) -> bool
-    ensures { result ≡ is_early phase }
-{
-    match phase {
-        Phase::First => false,
-        Phase::Early => true,
-        Phase::Later => false,
         Phase::Stopped => false,
     }
 }
@@ -71,7 +57,7 @@ fn opened(phase: Phase, number: u64, first: FirstLine, lent: usize) -> Session
         line: [0; chunk::KEPT_BYTES],
         setup: fresh::setup_of(first),
         levels: fresh::fresh_levels(),
-        masks: fresh::fresh_masks(first),
+        masks: fresh::fresh_masks(),
         first: record,
         second: record,
         third: record,
@@ -96,9 +82,8 @@ pub(crate) fn blank(phase: Phase) -> Session
     opened(phase, 0, none, 0)
 }
 
-// The session of a phase before a line, with the machine and the words that the line before it left.
+// The session before a later line, with the machine and the words that the line before it left.
 pub fn after_line(
-    phase: Phase,
     start: Session,
     number: u64,
     levels: Levels,
@@ -107,7 +92,7 @@ pub fn after_line(
     words: [u64; 64],
 ) -> Session
     ensures { progress_of result
-        ≡ progress_in phase number (lent start.setup levels masks vps (lent_of words start.lent)) [] }
+        ≡ later number (lent start.setup levels masks vps (lent_of words start.lent)) [] }
 {
     let line = start.line;
     let setup = start.setup;
@@ -116,7 +101,7 @@ pub fn after_line(
     let third = vps[2];
     let fourth = vps[3];
     Session {
-        phase,
+        phase: Phase::Later,
         number,
         length: 0,
         line,
@@ -172,7 +157,7 @@ fn begin(first: FirstLine, out: &mut [u8]) -> Written
     requires first_value { admissible first ≡ true }
     ensures { EndedBy (begun (some (fresh first))) result out.old out.new }
 {
-    let session = opened(Phase::Early, 1, first, first.pages as usize);
+    let session = opened(Phase::Later, 1, first, first.pages as usize);
     let wrote = write_first(out, 0);
     Written { session, wrote }
 }
@@ -220,46 +205,8 @@ fn end_later(start: Session, out: &mut [u8]) -> Written
         &line[..size],
     );
     let wrote = listing_record::write_record(out, 0, listing_record::line_number(number), shown);
-    let session = after_line(Phase::Later, start, next, levels, masks, vps, words);
+    let session = after_line(start, next, levels, masks, vps, words);
     Written { session, wrote }
-}
-
-// Ends a host line that comes early (02, request 7): the session stays early.
-fn end_host(start: Session, out: &mut [u8]) -> Written
-    requires longest_record_in_bounds { longest_record ≤ length out.old }
-    requires length_value { is_host_line (held start.line start.length) ≡ true }
-    ensures { EndedBy (ended (early start.number (state_in start) (held start.line start.length))) result
-        out.old out.new }
-{
-    let line = start.line;
-    let number = start.number;
-    let next = std::num::wrapping_add_u64(number, 1);
-    let setup = start.setup;
-    let levels = start.levels;
-    let mut masks = start.masks;
-    let vps = records(start);
-    let words = start.words;
-    let lent = lent_words(&words, start.lent);
-    let formed = well_formed(setup, &levels, &masks, &vps, &words[..lent]);
-    let size = chunk::held_length(&line, start.length);
-    let shown = answer_host(formed, setup, &mut masks, &line[..size]);
-    let wrote = listing_record::write_record(out, 0, listing_record::line_number(number), shown);
-    let session = after_line(Phase::Early, start, next, levels, masks, vps, words);
-    Written { session, wrote }
-}
-
-// Ends a line while host lines are not late: the first line that has another first field is a later one.
-fn end_early(start: Session, out: &mut [u8]) -> Written
-    requires { longest_record ≤ length out.old }
-    ensures { EndedBy (ended (early start.number (state_in start) (held start.line start.length))) result
-        out.old out.new }
-{
-    let line = start.line;
-    let size = chunk::held_length(&line, start.length);
-    if script::is_host_line(&line[..size]) {
-        return end_host(start, out);
-    }
-    end_later(start, out)
 }
 
 // Ends the line whose bytes the session holds.
@@ -270,7 +217,6 @@ pub(crate) fn end_line(start: Session, out: &mut [u8]) -> Written
     let phase = start.phase;
     match phase {
         Phase::First => end_first(start, out),
-        Phase::Early => end_early(start, out),
         Phase::Later => end_later(start, out),
         Phase::Stopped => Written {
             session: start,
@@ -282,7 +228,13 @@ pub(crate) fn end_line(start: Session, out: &mut [u8]) -> Written
 // Feeds a session that holds no bytes of a line what is left of a chunk from `from` on; the records go into `out` from `at` on.
 // The machine stays in locals of this loop, which lends them; a line is read where it lies in the chunk. Whether the state is well
 // formed is asked once, since every line keeps it so.
-fn feed_later(start: Session, chunk: &[u8], from: usize, out: &mut [u8], at: usize) -> Fed
+pub(crate) fn feed_later(
+    start: Session,
+    chunk: &[u8],
+    from: usize,
+    out: &mut [u8],
+    at: usize,
+) -> Fed
     requires from_in_bounds { from ≤ length chunk.now }
     requires at_in_bounds { at ≤ length out.old }
     ensures { FedFrom from at
@@ -303,7 +255,7 @@ fn feed_later(start: Session, chunk: &[u8], from: usize, out: &mut [u8], at: usi
     loop {
         let end = chunk::line_end(chunk, i);
         if chunk.len() <= end {
-            let session = after_line(Phase::Later, start, line.number, levels, masks, vps, words);
+            let session = after_line(start, line.number, levels, masks, vps, words);
             return Fed {
                 session: keep(session, &chunk[i..]),
                 used: end,
@@ -312,7 +264,7 @@ fn feed_later(start: Session, chunk: &[u8], from: usize, out: &mut [u8], at: usi
         }
         if out.len() - wrote < LONGEST_RECORD {
             return Fed {
-                session: after_line(Phase::Later, start, line.number, levels, masks, vps, words),
+                session: after_line(start, line.number, levels, masks, vps, words),
                 used: i,
                 wrote,
             };
@@ -331,68 +283,4 @@ fn feed_later(start: Session, chunk: &[u8], from: usize, out: &mut [u8], at: usi
         wrote = listing_record::write_record(out, wrote, line, shown);
         line = listing_record::next_number(line);
     }
-}
-
-// The same while host lines are not late (02, request 7). The first line that has another first field, and what follows it, is fed as later lines are.
-fn feed_early(start: Session, chunk: &[u8], from: usize, out: &mut [u8], at: usize) -> Fed
-    requires from_in_bounds { from ≤ length chunk.now }
-    requires at_in_bounds { at ≤ length out.old }
-    ensures { FedFrom from at
-        (fed (early start.number (state_in start) []) (drop from chunk.now)
-        (length out.old - at))
-        result out.old out.new }
-{
-    let setup = start.setup;
-    let levels = start.levels;
-    let mut masks = start.masks;
-    let vps = records(start);
-    let words = start.words;
-    let mut line = listing_record::line_number(start.number);
-    let lent = lent_words(&words, start.lent);
-    let formed = well_formed(setup, &levels, &masks, &vps, &words[..lent]);
-    let mut i = from;
-    let mut wrote = at;
-    loop {
-        let end = chunk::line_end(chunk, i);
-        if chunk.len() <= end {
-            let session = after_line(Phase::Early, start, line.number, levels, masks, vps, words);
-            return Fed {
-                session: keep(session, &chunk[i..]),
-                used: end,
-                wrote,
-            };
-        }
-        if out.len() - wrote < LONGEST_RECORD {
-            return Fed {
-                session: after_line(Phase::Early, start, line.number, levels, masks, vps, words),
-                used: i,
-                wrote,
-            };
-        }
-        let bytes = &chunk[i..end];
-        if !script::is_host_line(bytes) {
-            let session = after_line(Phase::Later, start, line.number, levels, masks, vps, words);
-            return feed_later(session, chunk, i, out, wrote);
-        }
-        i = end + 1;
-        let shown = answer_host(formed, setup, &mut masks, bytes);
-        wrote = listing_record::write_record(out, wrote, line, shown);
-        line = listing_record::next_number(line);
-    }
-}
-
-// Feeds a session past the first line, which holds no bytes of a line.
-pub(crate) fn feed_rest(start: Session, chunk: &[u8], from: usize, out: &mut [u8], at: usize) -> Fed
-    requires from_in_bounds { from ≤ length chunk.now }
-    requires at_in_bounds { at ≤ length out.old }
-    ensures { FedFrom from at
-        (fed (between (is_early start.phase) start.number (state_in start)) (drop from chunk.now)
-        (length out.old - at))
-        result out.old out.new }
-{
-    let phase = start.phase;
-    if is_early(phase) {
-        return feed_early(start, chunk, from, out, at);
-    }
-    feed_later(start, chunk, from, out, at)
 }

@@ -15,7 +15,7 @@ use Rattle.model.specs.Arrays.{number_at}
 use Rattle.model.specs.Bounded.{every, all_of}
 use Rattle.model.specs.Masks.{valid_mask}
 use Rattle.model.specs.State.{State, in_range, processors, max_level_of, pages, partition, shape, is_processor, vp, no_vp}
-use Rattle.model.specs.State.{past_vp, context, secure_of, enabled_at, mbec_for, host_mask_of}
+use Rattle.model.specs.State.{past_vp, context, secure_of, enabled_at, mbec_for}
 use Rattle.model.specs.WellFormed.{◌implies◌, well_sized, well_formed_vp, well_formed_level, well_formed_parts, well_formed}
 use Rattle.model.specs.WellFormed.{well_moded_vp, well_moded}
 use Rattle.state.specs.SecureWord.{well_configured}
@@ -85,14 +85,13 @@ module _ (s : State) where
       && (placed 0 && placed 1 && placed 2 && placed 3)
       && every 3 (λ i. well_formed_level s (suc i))
       && valid_mask s.machine.host_mask
-      && not (mbec_for s 0)
-      && every 64 (λ p. valid_mask (host_mask_of s p)))
+      && not (mbec_for s 0))
       ≡ well_formed s
   unfolding well_formed well_formed_parts well_sized all_of
-  state-formed = rw places_of (go (well_moded s) (well_sized s) (every 4 formed_at) _ _ _ _)
+  state-formed = rw places_of (go (well_moded s) (well_sized s) (every 4 formed_at) _ _ _)
     where
-      go : (mode sized formed levels start low host : Bool)
-          → (sized && (formed && mode) && levels && start && low && host)
-          ≡ (sized && (formed && (levels && (start && (low && (host && true))))) && mode)
-      go true sized formed levels start low host = simp (and-true, and_assoc)
-      go false sized formed levels start low host = simp and-false
+      go : (mode sized formed levels host low : Bool)
+          → (sized && (formed && mode) && levels && host && low)
+          ≡ (sized && (formed && (levels && (host && (low && true)))) && mode)
+      go true sized formed levels host low = simp (and-true, and_assoc)
+      go false sized formed levels host low = simp and-false

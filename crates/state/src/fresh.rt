@@ -2,8 +2,7 @@
 // `fresh-machine` of proofs/FreshMachine.antt joins the parts to the machine.
 ghost use Rattle.std.specs.Prelude.{◌≡◌, List, ℕ};
 ghost use Rattle.model.specs.Fresh.{admissible, fresh_vp, fresh_partition};
-ghost use Rattle.model.specs.State.{host_level};
-ghost use Rattle.model.specs.Updates.{with_masks, fill_masks};
+ghost use Rattle.model.specs.Updates.{with_masks};
 ghost use Rattle.partition.specs.PartitionView.{partition_of};
 ghost use Rattle.processor.specs.Record.{vp_of};
 ghost use Rattle.state.specs.Lent.{setup_of};
@@ -11,7 +10,7 @@ ghost use Rattle.state.specs.Lent.{setup_of};
 use crate::well_formed_state::in_range;
 use model::machine::{FirstLine, Setup, Shape};
 use partition::level::Levels;
-use partition::mask::{ALL_RIGHTS, Masks, fill_host_masks, valid_mask};
+use partition::mask::{ALL_RIGHTS, Masks, valid_mask};
 use processor::record::{ENABLED, RECORD_WORDS, Record};
 
 // The set of level 0 alone, and the set of no level.
@@ -72,11 +71,9 @@ pub fn fresh_levels() -> Levels
     ]
 }
 
-// The masks of all pages: the levels' with every right, the host's as the first line says (02, request 7).
-pub fn fresh_masks(first: FirstLine) -> Masks
-    ensures { result ≡ (fill_masks first.pages fresh_partition host_level first.host_mask).masks }
+// The masks of all pages, with every right.
+pub fn fresh_masks() -> Masks
+    ensures { result ≡ fresh_partition.masks }
 {
-    let mut masks = [ALL_RIGHTS; 256];
-    fill_host_masks(&mut masks, first.pages, first.host_mask);
-    masks
+    [ALL_RIGHTS; 256]
 }

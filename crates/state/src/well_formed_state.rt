@@ -1,4 +1,4 @@
-// Well-formed states (01, "Well formed"): the sizes, each place for a processor, the levels, and the host's masks. Any other state
+// Well-formed states (01, "Well formed"): the sizes, each place for a processor, the levels, and the host mask. Any other state
 // gets answer 1.
 ghost use Rattle.std.specs.Prelude.{◌≡◌, ◌&&◌, List, ℕ};
 ghost use Rattle.model.specs.State.{in_range};
@@ -10,7 +10,7 @@ ghost use Rattle.state.specs.Lent.{lent};
 use crate::well_formed_vp::{well_formed_vp, well_moded_vp};
 use model::machine::{Setup, Shape};
 use model::quantity::Level;
-use partition::formed::{host_masks_valid, well_formed_levels};
+use partition::formed::well_formed_levels;
 use partition::level::{Levels, mbec_for};
 use partition::mask::{Masks, valid_mask};
 use processor::record::Record;
@@ -62,14 +62,7 @@ pub fn well_formed(
     let two = well_formed_place(2 < setup.processors, shape, levels, &vps[2]);
     let three = well_formed_place(3 < setup.processors, shape, levels, &vps[3]);
     let protections = well_formed_levels(shape, setup.pages, levels, masks);
-    let start = valid_mask(setup.host_mask);
+    let host = valid_mask(setup.host_mask);
     let lowest = mbec_for(shape, levels, Level(0));
-    let host = host_masks_valid(setup.pages, masks);
-    sized
-        & (count == setup.pages)
-        & (zero & one & two & three)
-        & protections
-        & start
-        & !lowest
-        & host
+    sized & (count == setup.pages) & (zero & one & two & three) & protections & host & !lowest
 }

@@ -6,13 +6,12 @@ ghost use Rattle.model.specs.Arrays.{number_at};
 ghost use Rattle.model.specs.Bounded.{every};
 ghost use Rattle.model.specs.Registers.{cr0, protected_bit, private_of};
 ghost use Rattle.model.specs.State.{context, enabled_at, in_set};
-ghost use Rattle.model.specs.WellFormed.{◌implies◌, never_entered, well_entered, well_formed_context, well_formed_vina};
-ghost use Rattle.model.specs.WellFormed.{well_formed_vp, well_moded_vp};
+ghost use Rattle.model.specs.WellFormed.{◌implies◌, never_entered, well_entered, well_formed_context, well_formed_vp, well_moded_vp};
 ghost use Rattle.partition.specs.PartitionView.{enabled_in, mbec_in, partition_of};
 ghost use Rattle.processor.specs.Record.{level_words, vp_of, word_in};
 ghost use Rattle.state.specs.SecureWord.{well_configured};
 
-use model::machine::{BY_INTERRUPT, Control, Shape, Vina};
+use model::machine::{BY_INTERRUPT, Control, Shape};
 use model::quantity::{FIRST_VECTOR, HIGHEST_CLASS, Level};
 use model::register::{CR0, PROTECTED_BIT};
 use model::set::is_level;
@@ -23,7 +22,6 @@ use processor::record;
 use processor::record::Record;
 use processor::record_registers::private_of;
 use processor::secure::secure_of;
-use processor::vina::{vector_too_low, vina_of};
 use processor::watch::{intercept_reserved_set, watch_of};
 use word::field::{has_bit, take};
 use word::registers::SecureConfig;
@@ -93,14 +91,6 @@ fn none_pending(shape: Shape, vp: &Record, level: Level) -> bool
     zero & one & two & three
 }
 
-// Has a VINA word a vector from 16 up if it is enabled, and is its state 0 or 1 (02, request 8)?
-fn well_formed_vina(vina: Vina) -> bool
-    ensures { result ≡ well_formed_vina vina }
-{
-    let low = vector_too_low(vina.word);
-    !low & (vina.asserted <= 1)
-}
-
 // Is what a processor holds of a level well formed?
 fn well_formed_context(shape: Shape, levels: &Levels, vp: &Record, level: Level) -> bool
     requires { level.0 < 4 }
@@ -121,7 +111,6 @@ fn well_formed_context(shape: Shape, levels: &Levels, vp: &Record, level: Level)
     let low = take(pending, 0, FIRST_VECTOR as u32);
     let none = none_pending(shape, vp, level);
     let reserved = intercept_reserved_set(watch_of(shape, vp, level).intercepts);
-    let told = well_formed_vina(vina_of(shape, vp, level));
     (!enabled | on)
         & (!((0 < level.0) & enabled) | entered)
         & configured
@@ -130,7 +119,6 @@ fn well_formed_context(shape: Shape, levels: &Levels, vp: &Record, level: Level)
         & (enabled | none)
         & (!((0 < level.0) & !enabled) | never)
         & (!(0 < level.0) | !reserved)
-        & (!(0 < level.0) | told)
 }
 
 // Is a processor well formed, but for real mode? Of the partition only the levels are read, not the masks.

@@ -51,9 +51,9 @@ module _ (setup : Setup) (levels masks : List ℕ) (rows : List (List ℕ)) (wor
   abbrev s : State
   s = lent setup levels masks rows words
 
-  pub lends : Lends words s
+  pub lends : Lends setup.host_mask words s
   unfolding machine_of
-  lends = record { words = refl }
+  lends = record { host = refl; words = refl }
 
   pub shaped : shape s ≡ setup.shape
   unfolding shape machine_of
@@ -62,11 +62,6 @@ module _ (setup : Setup) (levels masks : List ℕ) (rows : List (List ℕ)) (wor
   pub keeps : partition s ≡ partition_of levels masks
   unfolding partition machine_of
   keeps = refl
-
-  -- Whatever level is active on a processor, there or not.
-  pub held : (v : ℕ) → Acts setup.shape setup.pages (partition_of levels masks) (active s v) s v
-  unfolding pages machine_of
-  held v = record { shaped = shaped; paged = refl; keeps = keeps; actor = refl }
 
   -- A processor that is there: its record, read and stored.
   module _ (w : ℕ) (h : is_index setup.processors w ≡ true) where

@@ -5,21 +5,19 @@ ghost use Rattle.word.specs.Field.{bit};
 ghost use Rattle.model.specs.Bounded.{any};
 ghost use Rattle.model.specs.Events.{locked as locked_for};
 ghost use Rattle.model.specs.State.{enabled_at, enabled_anywhere, is_index, no_vp, secure_of, lock_bit};
-ghost use Rattle.model.specs.declared.event.Event.TheVariants.{Host};
 ghost use Rattle.model.specs.Step.{acted as acted_of, ruled as ruled_of, step as step_of};
 ghost use Rattle.processor.specs.Record.{vp_of};
 ghost use Rattle.promise.specs.Promise.{outcome_of};
 ghost use Rattle.state.specs.Lent.{lent};
-ghost use Rattle.step.specs.Stepped.{step_if, hosted_if};
+ghost use Rattle.step.specs.Stepped.{step_if};
 
 use access_events::Request;
 use entry_events::Target;
-use level_events::{config, enpart, host, protect};
+use level_events::{config, enpart, protect};
 use model::answer::{Answer, Refusal};
 use model::event::{Action, Event};
 use model::machine::{Setup, Shape};
-use model::quantity::{Access, Level, Mode, Page, Processor, mode_of};
-use notice::{vclear, vina};
+use model::quantity::{Access, Level, Mode, Processor, mode_of};
 use partition::level::Levels;
 use partition::mask::Masks;
 use processor::control::InitialContext;
@@ -184,8 +182,6 @@ fn acted(
             control_register,
             mask,
         } => crm(shape, &mut vps[i], mode, control_register, mask),
-        Action::Vina { word } => vina(shape, &mut vps[i], mode, word),
-        Action::Vclear => vclear(shape, &mut vps[i], mode),
     }
 }
 
@@ -230,8 +226,6 @@ fn ruled(
             let j = on.0 as usize;
             entry_events::int(setup.shape, &mut vps[j], target, vector)
         }
-        // Only a script knows that a host line comes early: here it is late.
-        Event::Host { page, mask } => host(true, setup, masks, page, mask),
     }
 }
 
@@ -275,33 +269,4 @@ pub fn step(
 {
     let formed = well_formed(setup, levels, masks, vps, words);
     step_if(formed, setup, levels, masks, vps, words, event)
-}
-
-// A host line of a script that comes early (02, request 7), on a state of which it is known whether it is well formed. One that is not gets
-// answer 1, and nothing changes. Of the machine only the masks are read and changed.
-pub fn host_if(formed: bool, setup: Setup, masks: &mut Masks, page: Page, mask: u64) -> Answer
-    ensures { ((levels : List ℕ) (vps : List (List ℕ)) (words : List ℕ)
-        → outcome_of result (lent setup levels masks.new vps words)
-        ≡ hosted_if formed (lent setup levels masks.old vps words) page.0 mask) }
-{
-    if !formed {
-        return Answer::Refused(Refusal::NotWellFormed);
-    }
-    host(false, setup, masks, page, mask)
-}
-
-// A host line that comes late, which is what every host line is for `step_if`: that gives the same. Whoever runs many events looks for host
-// lines first, so that all others are told apart by one test.
-pub fn late_host_if(formed: bool, setup: Setup, masks: &mut Masks, page: Page, mask: u64) -> Answer
-    ensures { ((levels : List ℕ) (vps : List (List ℕ)) (words : List ℕ)
-        → outcome_of result (lent setup levels masks.new vps words)
-        ≡ step_if formed (lent setup levels masks.old vps words) (Host page mask)) }
-{
-    if !formed {
-        return Answer::Refused(Refusal::NotWellFormed);
-    }
-    if 4 < setup.processors {
-        return Answer::Refused(Refusal::NotWellFormed);
-    }
-    host(true, setup, masks, page, mask)
 }

@@ -16,16 +16,16 @@ use Rattle.model.specs.declared.machine.Shape.{Shape}
 use Rattle.model.specs.declared.machine.VirtualProcessor.{VirtualProcessor}
 use Rattle.model.specs.Arrays.{number_at}
 use Rattle.model.specs.Registers.{private_of, shared_of}
-use Rattle.model.specs.State.{State, processors, pages, partition, shape, is_level, is_processor, vp, context, active_of, active, enabled_on, enabled_for, mbec_for, config_of, config_in, mask_of, mask_in, host_level, host_mask_of, host_in, word_of, secure_of, no_context, no_vp, past_vp, past_context}
+use Rattle.model.specs.State.{State, processors, pages, partition, shape, is_level, is_processor, vp, context, active_of, active, enabled_on, enabled_for, mbec_for, config_of, config_in, mask_of, mask_in, word_of, secure_of, no_context, no_vp, past_vp, past_context}
 use Rattle.model.proofs.Bools.{and_right, cond-holds}
 use Rattle.model.proofs.Four.{four-at}
 use Rattle.partition.specs.PartitionView.{configs_in, partition_of}
 use Rattle.processor.proofs.RecordWords.{row-length}
-use Rattle.processor.specs.Record.{record_words, level_words, intercepts, cr0_mask_index, cr4_mask_index, vina_word, asserted, part, row_of, context_of, context_in, vp_of}
+use Rattle.processor.specs.Record.{record_words, level_words, intercepts, cr0_mask_index, cr4_mask_index, part, row_of, context_of, context_in, vp_of}
 use Rattle.state.proofs.OneState.{Records}
 use Rattle.state.specs.Lent.{machine_of, lent}
 use Rattle.records.specs.declared.place.Place.{Place}
-use Rattle.records.specs.declared.place.Place.TheVariants.{PartitionEnabled, Mbec, Config, Active, Shared, Register, Tpr, Pending, Enabled, Secure, Reason, From, Rax, Rcx, Word, Mask, Intercepts, Cr0Mask, Cr4Mask, HostMask, VinaWord, Asserted}
+use Rattle.records.specs.declared.place.Place.TheVariants.{PartitionEnabled, Mbec, Config, Active, Shared, Register, Tpr, Pending, Enabled, Secure, Reason, From, Rax, Rcx, Word, Mask, Intercepts, Cr0Mask, Cr4Mask}
 use Rattle.model.specs.WellFormed.{well_formed}
 use Rattle.records.proofs.SameBytes.{read_back}
 use Rattle.records.specs.Reading.{passed_on}
@@ -84,8 +84,6 @@ record FitContext (k : Context) : Type 0 where
   intercepts : k.watch.intercepts < 2 ^ 64
   cr0-mask : k.watch.cr0_mask < 2 ^ 64
   cr4-mask : k.watch.cr4_mask < 2 ^ 64
-  vina-word : k.vina.word < 2 ^ 64
-  asserted : k.vina.asserted < 2 ^ 64
 
 no-fits : FitContext no_context
 no-fits = record {
@@ -100,8 +98,6 @@ no-fits = record {
   intercepts = omega arith;
   cr0-mask = omega arith;
   cr4-mask = omega arith;
-  vina-word = omega arith;
-  asserted = omega arith;
 }
 
 past_fits : FitContext past_context
@@ -117,8 +113,6 @@ past_fits = record {
   intercepts = omega arith;
   cr0-mask = omega arith;
   cr4-mask = omega arith;
-  vina-word = omega arith;
-  asserted = omega arith;
 }
 
 row_fits : (row : List ℕ) → Words row → FitContext (context_of row)
@@ -135,8 +129,6 @@ row_fits row h = record {
   intercepts = h intercepts;
   cr0-mask = h cr0_mask_index;
   cr4-mask = h cr4_mask_index;
-  vina-word = h vina_word;
-  asserted = h asserted;
 }
 
 in-fits : (ws : List ℕ) → Words ws → (l : ℕ) → FitContext (context_in ws l)
@@ -230,7 +222,7 @@ module _ (setup : Setup) (levels masks words : List ℕ) (rows : List (List ℕ)
     configs-fit (suc (suc (suc (suc i)))) = omega arith
 
     value-fits : (p : Place) → value_at S p < 2 ^ 64
-    unfolding value_at active active_of shared_of private_of secure_of config_of config_in mask_of mask_in host_mask_of host_in word_of partition pages shape machine_of partition_of
+    unfolding value_at active active_of shared_of private_of secure_of config_of config_in mask_of mask_in word_of partition pages shape machine_of partition_of
     value-fits (PartitionEnabled t) = flag-fits (enabled_for S t.0)
     value-fits (Mbec t) = flag-fits (mbec_for S t.0)
     value-fits (Config t) = chosen (ltb 0 t.0 && is_level setup.shape t.0) (number_fits 4 (configs_in levels) configs-fit t.0)
@@ -248,10 +240,7 @@ module _ (setup : Setup) (levels masks words : List ℕ) (rows : List (List ℕ)
     value-fits (Intercepts v l) = ((processor-fits v.0).contexts l.0).intercepts
     value-fits (Cr0Mask v l) = ((processor-fits v.0).contexts l.0).cr0-mask
     value-fits (Cr4Mask v l) = ((processor-fits v.0).contexts l.0).cr4-mask
-    value-fits (VinaWord v l) = ((processor-fits v.0).contexts l.0).vina-word
-    value-fits (Asserted v l) = ((processor-fits v.0).contexts l.0).asserted
     value-fits (Word p) = parts.words-fit p.0
-    value-fits (HostMask p) = chosen (ltb p.0 setup.pages && ltb p.0 64) (number_fits 256 masks parts.masks-fit (4 * p.0 + host_level))
     value-fits (Mask p t) = chosen (ltb 0 t.0 && is_level setup.shape t.0 && (ltb p.0 setup.pages && ltb p.0 64)) (number_fits 256 masks parts.masks-fit (4 * p.0 + t.0))
 
     pub lent-sized : Sized S

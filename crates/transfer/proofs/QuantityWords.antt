@@ -16,15 +16,15 @@ use Rattle.model.specs.declared.quantity.Level.{Level}
 use Rattle.model.specs.declared.quantity.Processor.{Processor}
 use Rattle.model.specs.Arrays.{number_at}
 use Rattle.model.specs.Registers.{private_of, shared_of}
-use Rattle.model.specs.State.{State, processors, pages, partition, shape, in_set, is_level, is_processor, vp, context, active_of, active, enabled_at, enabled_on, enabled_for, mbec_for, config_of, config_in, mask_of, mask_in, host_mask_of, host_in, word_of, secure_of, no_vp, past_vp, past_context}
+use Rattle.model.specs.State.{State, processors, pages, partition, shape, in_set, is_level, is_processor, vp, context, active_of, active, enabled_at, enabled_on, enabled_for, mbec_for, config_of, config_in, mask_of, mask_in, word_of, secure_of, no_vp, past_vp, past_context}
 use Rattle.model.proofs.Bools.{and_left, and_right}
 use Rattle.model.proofs.Four.{four-at}
 use Rattle.partition.specs.PartitionView.{enabled_in, mbec_in, configs_in, partition_of}
 use Rattle.processor.proofs.RecordWords.{row_word}
-use Rattle.processor.specs.Record.{level_words, intercepts, cr0_mask_index, cr4_mask_index, vina_word, asserted, part, row_of, context_of, context_in, vp_of}
+use Rattle.processor.specs.Record.{level_words, intercepts, cr0_mask_index, cr4_mask_index, part, row_of, context_of, context_in, vp_of}
 use Rattle.state.specs.Lent.{machine_of, lent}
 use Rattle.records.specs.declared.place.Place.{Place}
-use Rattle.records.specs.declared.place.Place.TheVariants.{PartitionEnabled, Mbec, Config, Active, Shared, Register, Tpr, Pending, Enabled, Secure, Reason, From, Rax, Rcx, Word, Mask, Intercepts, Cr0Mask, Cr4Mask, HostMask, VinaWord, Asserted}
+use Rattle.records.specs.declared.place.Place.TheVariants.{PartitionEnabled, Mbec, Config, Active, Shared, Register, Tpr, Pending, Enabled, Secure, Reason, From, Rax, Rcx, Word, Mask, Intercepts, Cr0Mask, Cr4Mask}
 use Rattle.records.specs.Places.{known, upper, has}
 use Rattle.records.specs.Values.{number, value_at}
 use Rattle.records.proofs.Limits.{limits}
@@ -79,12 +79,9 @@ module _ (c : Setup) (levels masks : List ℕ) (rows : List (List ℕ)) (words :
   kept_at (Intercepts v l) = get_or (row v) (22 + level_words * l.0 + intercepts) 0
   kept_at (Cr0Mask v l) = get_or (row v) (22 + level_words * l.0 + cr0_mask_index) 0
   kept_at (Cr4Mask v l) = get_or (row v) (22 + level_words * l.0 + cr4_mask_index) 0
-  kept_at (HostMask p) = host_in c.pages masks p.0
-  kept_at (VinaWord v l) = get_or (row v) (22 + level_words * l.0 + vina_word) 0
-  kept_at (Asserted v l) = get_or (row v) (22 + level_words * l.0 + asserted) 0
 
   pub kept : (p : Place) → has c p ≡ true → kept_at p ≡ value_at S p
-  unfolding value_at has enabled_for mbec_for config_of mask_of host_mask_of partition pages shape machine_of partition_of active active_of shared_of private_of enabled_on enabled_at in_set secure_of vp_of context_in context_of word_of
+  unfolding value_at has enabled_for mbec_for config_of mask_of partition pages shape machine_of partition_of active active_of shared_of private_of enabled_on enabled_at in_set secure_of vp_of context_in context_of word_of
   kept (PartitionEnabled t) h = refl
   kept (Mbec t) h = refl
   kept (Config t) h = refl
@@ -117,8 +114,5 @@ module _ (c : Setup) (levels masks : List ℕ) (rows : List (List ℕ)) (words :
   kept (Intercepts v l) h = sym (ap (λ (k : Context). k.watch.intercepts) (upper-kept v l h (limits c (Intercepts v l) h).1) ∙ row_word (row v) l.0 intercepts (omega arith))
   kept (Cr0Mask v l) h = sym (ap (λ (k : Context). k.watch.cr0_mask) (upper-kept v l h (limits c (Cr0Mask v l) h).1) ∙ row_word (row v) l.0 cr0_mask_index (omega arith))
   kept (Cr4Mask v l) h = sym (ap (λ (k : Context). k.watch.cr4_mask) (upper-kept v l h (limits c (Cr4Mask v l) h).1) ∙ row_word (row v) l.0 cr4_mask_index (omega arith))
-  kept (VinaWord v l) h = sym (ap (λ (k : Context). k.vina.word) (upper-kept v l h (limits c (VinaWord v l) h).1) ∙ row_word (row v) l.0 vina_word (omega arith))
-  kept (Asserted v l) h = sym (ap (λ (k : Context). k.vina.asserted) (upper-kept v l h (limits c (Asserted v l) h).1) ∙ row_word (row v) l.0 asserted (omega arith))
   kept (Word p) h = refl
   kept (Mask p t) h = refl
-  kept (HostMask p) h = refl

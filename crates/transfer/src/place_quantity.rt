@@ -12,7 +12,7 @@ use model::quantity::{Level, Page, Processor};
 use model::register::DR6;
 use model::set::{LevelSet, in_set};
 use partition::level::{Levels, config_at, enabled_for, mbec_for};
-use partition::mask::{Masks, host_mask_at, mask_at};
+use partition::mask::{Masks, mask_at};
 use processor::record;
 use processor::record::Record;
 use records::place::Place;
@@ -102,8 +102,5 @@ pub(crate) fn quantity(
         Place::Intercepts(v, l) => row_word(vps, v, l, record::INTERCEPTS),
         Place::Cr0Mask(v, l) => row_word(vps, v, l, record::CR0_MASK),
         Place::Cr4Mask(v, l) => row_word(vps, v, l, record::CR4_MASK),
-        Place::HostMask(p) => host_mask_at(setup.pages, masks, p),
-        Place::VinaWord(v, l) => row_word(vps, v, l, record::VINA),
-        Place::Asserted(v, l) => row_word(vps, v, l, record::ASSERTED),
     }
 }

@@ -3,7 +3,7 @@
 use Rattle.std.proofs.Common.{◌≡◌, ℕ, ◌^◌, ◌<◌, true, ◌↔◌, refl, ap, ◌∙◌}
 use Rattle.word.specs.Layout.{width_of, low_bits, unpack, reserved_clear}
 use Rattle.word.specs.RegisterLayouts.{Register, pack_as, unpack_as}
-use Rattle.word.specs.RegisterLayouts.{capabilities, partition_status, vp_status, partition_config, secure_config, code_page_offsets, intercept_control, vina_control}
+use Rattle.word.specs.RegisterLayouts.{capabilities, partition_status, vp_status, partition_config, secure_config, code_page_offsets, intercept_control}
 use Rattle.word.proofs.LayoutLaws.{unpack-pack, pack-unpack, pack-lt, pack-clear}
 
 -- What holds of a register.
@@ -56,9 +56,6 @@ code-page-offsets-whole = whole code_page_offsets refl (λ w. refl) (λ s. refl)
 
 pub intercept-control-whole : Whole intercept_control
 intercept-control-whole = whole intercept_control refl (λ w. refl) (λ s. refl)
-
-pub vina-control-whole : Whole vina_control
-vina-control-whole = whole vina_control refl (λ w. refl) (λ s. refl)
 
 -- Levels 0 and 1 enabled of at most 1, and MBEC at level 1, as a word.
 pub partition-status-word :

@@ -1,5 +1,5 @@
--- Where the used fields of a register of document 001 stand in its word, and a field read and replaced there. Registers are
--- numbered from 0 in the order of `layouts`, their used fields in the order of 001. All of it follows from the layouts of RegisterLayouts.antt. Assumes nothing.
+-- Where the used fields of a register of document 001 stand in its word, and a field read and replaced there. Registers and their used
+-- fields are numbered from 0 in the order of 001. All of it follows from the layouts of RegisterLayouts.antt. Assumes nothing.
 use Rattle.std.specs.Prelude.{◌≡◌, ℕ, ◌+◌, List, [], ◌∷◌, slice_index, slice_index_or, slice_set}
 use Rattle.word.specs.Field.{put_at}
 use Rattle.word.specs.Layout.{Layout, low_bits, reserved, unpack, used}

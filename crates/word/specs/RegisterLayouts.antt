@@ -8,7 +8,6 @@ use Rattle.word.specs.declared.registers.VpStatus.{VpStatus}
 use Rattle.word.specs.declared.registers.PartitionConfig.{PartitionConfig}
 use Rattle.word.specs.declared.registers.SecureConfig.{SecureConfig}
 use Rattle.word.specs.declared.registers.CodePageOffsets.{CodePageOffsets}
-use Rattle.word.specs.declared.registers.VinaControl.{VinaControl}
 use Rattle.word.specs.declared.intercept_control.InterceptControl.{InterceptControl}
 
 -- A register: its layout, and its structure as the list of the values of the used fields, both ways.
@@ -98,26 +97,11 @@ bit_fields (suc n) layout = used 1 ∷ bit_fields n layout
 abbrev pub intercept_control : Register InterceptControl
 intercept_control = record { layout = bit_fields 25 (reserved 39 ∷ []); values = λ s. s.values; structure = λ xs. record { values = xs } }
 
--- HV_REGISTER_VSM_VINA: Vector : 8; Enabled : 1; AutoReset : 1; AutoEoi : 1; ReservedP : 53. The last are preserved: stored as given (02, request 8).
-abbrev pub vina_control : Register VinaControl
-vina_control =
-    record {
-      layout = used 8 ∷ used 1 ∷ used 1 ∷ used 1 ∷ used 53 ∷ [];
-      values = λ s. s.vector ∷ s.enabled ∷ s.auto_reset ∷ s.auto_eoi ∷ s.preserved ∷ [];
-      structure = λ xs. record {
-        vector = slice_index xs 0;
-        enabled = slice_index xs 1;
-        auto_reset = slice_index xs 2;
-        auto_eoi = slice_index xs 3;
-        preserved = slice_index xs 4;
-      };
-    }
-
--- The layouts of all registers: the first seven in the order of 001, then VINA.
+-- The layouts of all registers, in the order of 001.
 abbrev pub layouts : List Layout
 layouts =
     capabilities.layout ∷ partition_status.layout ∷ vp_status.layout
-    ∷ partition_config.layout ∷ secure_config.layout ∷ code_page_offsets.layout ∷ intercept_control.layout ∷ vina_control.layout ∷ []
+    ∷ partition_config.layout ∷ secure_config.layout ∷ code_page_offsets.layout ∷ intercept_control.layout ∷ []
 
 -- The layout of a register by its number, from 0. Any other register has no fields.
 abbrev pub layout_of : ℕ → Layout

@@ -1,12 +1,12 @@
-// Seven registers of document 001 (another stands in intercept_control.rt): the structure of each, packed into a word and unpacked
-// from one; and below them one table of the used fields of all eight, by which a field is read and replaced by its number. Of a value that is packed only the low bits count, as many
+// Six registers of document 001 (the seventh stands in intercept_control.rt): the structure of each, packed into a word and unpacked
+// from one; and below them one table of the used fields of all seven, by which a field is read and replaced by its number. Of a value that is packed only the low bits count, as many
 // as its field has. Reserved bits are packed as 0 and passed over. Each offset and width stands here once, as a constant that `pack`,
 // `unpack` and the table take.
 ghost use Rattle.std.specs.Prelude.{◌≡◌};
 ghost use Rattle.word.specs.RegisterFields.{field_of, position_of, with_field};
 ghost use Rattle.word.specs.RegisterLayouts.{pack_as, unpack_as};
 ghost use Rattle.word.specs.RegisterLayouts.{capabilities, partition_status, vp_status};
-ghost use Rattle.word.specs.RegisterLayouts.{partition_config, secure_config, code_page_offsets, vina_control};
+ghost use Rattle.word.specs.RegisterLayouts.{partition_config, secure_config, code_page_offsets};
 
 use crate::field::FieldPosition;
 use crate::intercept_control::InterceptControl;
@@ -215,56 +215,11 @@ impl CodePageOffsets {
     }
 }
 
-// Whether a level is told that an interrupt waits for a lower one, and by which vector: HV_REGISTER_VSM_VINA. The bits that 001 calls
-// preserved are kept as they are given.
-#[derive(Drop)]
-pub struct VinaControl {
-    pub vector: u64,
-    pub enabled: u64,
-    pub auto_reset: u64,
-    pub auto_eoi: u64,
-    pub preserved: u64,
-}
-
-impl VinaControl {
-    pub const VECTOR: FieldPosition = FieldPosition(0, 8);
-
-    pub const ENABLED: FieldPosition = FieldPosition(8, 1);
-
-    pub const AUTO_RESET: FieldPosition = FieldPosition(9, 1);
-
-    pub const AUTO_EOI: FieldPosition = FieldPosition(10, 1);
-
-    pub const PRESERVED: FieldPosition = FieldPosition(11, 53);
-
-    pub fn pack(self) -> u64
-        ensures { result ≡ pack_as vina_control self }
-    {
-        let word = Self::VECTOR.put(0, self.vector);
-        let word = Self::ENABLED.put(word, self.enabled);
-        let word = Self::AUTO_RESET.put(word, self.auto_reset);
-        let word = Self::AUTO_EOI.put(word, self.auto_eoi);
-        Self::PRESERVED.put(word, self.preserved)
-    }
-
-    pub fn unpack(word: u64) -> Self
-        ensures { result ≡ unpack_as vina_control word }
-    {
-        Self {
-            vector: Self::VECTOR.take(word),
-            enabled: Self::ENABLED.take(word),
-            auto_reset: Self::AUTO_RESET.take(word),
-            auto_eoi: Self::AUTO_EOI.take(word),
-            preserved: Self::PRESERVED.take(word),
-        }
-    }
-}
-
 // The table: a row for each used field. One computed comparison with the layouts of specs/RegisterLayouts.antt, in the proof of
 // `position_of`, tests all rows, and `row_at` of proofs/RegisterFieldLaws.antt carries it to each.
-// A new register is its layout in specs/RegisterLayouts.antt, its struct above, and its rows here with the row after them. No law
-// and no proof of the functions below changes.
-const POSITIONS: [FieldPosition; 48] = [
+// A new register (001's VINA word) is its layout in specs/RegisterLayouts.antt, its struct
+// above, and its rows here with the row after them. No law and no proof of the functions below changes.
+const POSITIONS: [FieldPosition; 43] = [
     Capabilities::DENY_LOWER_VTL_STARTUP,
     Capabilities::MBEC_VTL_MASK,
     Capabilities::DR6_SHARED,
@@ -308,23 +263,17 @@ const POSITIONS: [FieldPosition; 48] = [
     InterceptControl::MSR_SFMASK_WRITE,
     InterceptControl::MSR_TSC_AUX_WRITE,
     InterceptControl::MSR_SGX_LAUNCH_CONTROL_WRITE,
-    VinaControl::VECTOR,
-    VinaControl::ENABLED,
-    VinaControl::AUTO_RESET,
-    VinaControl::AUTO_EOI,
-    VinaControl::PRESERVED,
 ];
 
 // The row at which each register begins, and the row after the last.
-const FIRST_ROWS: [u64; 9] = [0, 3, 6, 9, 14, 16, 18, 43, 48];
+const FIRST_ROWS: [u64; 8] = [0, 3, 6, 9, 14, 16, 18, 43];
 
-const REGISTERS: u64 = 8;
+const REGISTERS: u64 = 7;
 
 // A field that is not there has no bits.
 const NOWHERE: FieldPosition = FieldPosition(0, 0);
 
-// Where a field of a register stands. Registers are numbered from 0 in the order of the layouts, their used
-// fields in the order of 001.
+// Where a field of a register stands. Registers and their used fields are numbered from 0 in the order of 001.
 pub fn position_of(register: u64, field: u64) -> FieldPosition
     ensures { result ≡ position_of register field }
 {

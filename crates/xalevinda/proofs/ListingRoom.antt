@@ -1,6 +1,5 @@
 -- How much room the text of an input takes at most: 84 bytes for each line that ends, and for one more. Assumes nothing.
-use mathlib.Core.Bool.{Bool, true, false, cond}
-use mathlib.Core.List.{List, [], ◌∷◌, ◌++◌}
+use mathlib.Core.List.{List, [], ◌∷◌}
 use mathlib.Core.Option.{Option, none, some}
 use mathlib.Core.Path.{◌≡◌, refl, ap}
 use Prim.Native.Nat.{ℕ, suc, ◌+◌, ◌*◌, ◌/◌, ◌≤◌, ◌<◌}
@@ -9,7 +8,7 @@ use native.Mathlib.Numerals.{add-one}
 use native.Mathlib.Omega.{arith}
 use lib.ListN.{drop, get_or, length, length-append}
 use lib.Seq.{drop-cons, drop-length}
-use Rattle.listing.specs.Listing.{Answered, answered, early_answered, early_records, first_done, later_records, listing, listing_from, listing_of, number_after, record_of, state_by}
+use Rattle.listing.specs.Listing.{Answered, answered, first_done, later_records, listing, listing_from, listing_of, number_after, record_of, state_by}
 use Rattle.passing.specs.Passing.{resumed, resumed_from}
 use Rattle.passing.specs.PassingSessions.{opened, opened_by, saved_text}
 use Rattle.passing.proofs.SavedSessions.{sent-at-most}
@@ -20,10 +19,10 @@ use Rattle.script.specs.Records.{in_front, last_line, lines, lines_in}
 use Rattle.model.specs.Answers.{number_of, value_of}
 use Rattle.model.specs.State.{State}
 use Rattle.script.proofs.Cells.{line-at-most}
-use Rattle.script.specs.EventForms.{is_host_line, line_event}
+use Rattle.script.specs.EventForms.{line_event}
 use Rattle.script.specs.First.{line_first}
 use Rattle.script.specs.ListingLine.{line_feed}
-use Rattle.session.specs.Session.{Progress, early, first, later, stopped}
+use Rattle.session.specs.Session.{Progress, first, later, stopped}
 use Rattle.xalevinda.specs.Exports.{size_of}
 use Rattle.xalevinda.specs.StoredListing.{text_of}
 use Rattle.xalevinda.specs.declared.written.Begins.{Begins}
@@ -40,21 +39,9 @@ later-at-most number s (line ∷ ls) =
     let a = answered s (line_event line) in
     omega (arith, length-append (record_of number a) (later_records (number_after number) a.next ls), record-at-most number a, later-at-most (number_after number) a.next ls)
 
-early-at-most : (number : ℕ) (s : State) (ls : List (List ℕ)) → length (early_records number s ls) ≤ 84 * length ls
-unfolding early_records
-early-at-most number s [] = omega arith
-early-at-most number s (line ∷ ls) = go (is_host_line line) (early-at-most (number_after number) (early_answered s (line_event line)).next ls)
-  where
-    a : Answered
-    a = early_answered s (line_event line)
-
-    go : (b : Bool) → length (early_records (number_after number) a.next ls) ≤ 84 * length ls → length (cond b (record_of number a ++ early_records (number_after number) a.next ls) (later_records number s (line ∷ ls))) ≤ 84 * length (line ∷ ls)
-    go true ih = omega (arith, length-append (record_of number a) (early_records (number_after number) a.next ls), record-at-most number a)
-    go false ih = later-at-most number s (line ∷ ls)
-
 from-at-most : (o : Option State) (more : List (List ℕ)) → length (listing_from o more) ≤ 84 + 84 * length more
 from-at-most none more = omega (arith, line-at-most 0 1 0 0)
-from-at-most (some s) more = omega (arith, length-append first_done (early_records 1 s more), line-at-most 0 0 0 0, early-at-most 1 s more)
+from-at-most (some s) more = omega (arith, length-append first_done (later_records 1 s more), line-at-most 0 0 0 0, later-at-most 1 s more)
 
 of-at-most : (ls : List (List ℕ)) (n : ℕ) → length ls ≤ suc n → length (listing_of ls) ≤ 84 * suc n
 of-at-most [] n h = omega (arith, line-at-most 0 1 0 0)
@@ -87,7 +74,7 @@ resumed-at-most input = go (passed_on (lines input)) refl
     go none e = omega (arith, line-at-most 0 1 0 0)
     go (some r) e =
         let these = ap length (only-records input r e).these in
-        omega (arith, length-append first_done (later_records 1 r.state r.rest), line-at-most 0 0 0 0, later-at-most 1 r.state r.rest, these, length-append (record_lines r.state) r.rest, some-lines r.state, lines-at-most input)
+        omega (arith, from-at-most (some r.state) r.rest, these, length-append (record_lines r.state) r.rest, some-lines r.state, lines-at-most input)
 
 text-at-most : (begins : Begins) (input : List ℕ) → length (text_of begins input) ≤ 84 * suc (length (lines_in input).complete)
 text-at-most begins.FirstLine input = listing-at-most input
@@ -109,7 +96,6 @@ opened-at-most input = go (passed_on (lines input))
 -- What is saved.
 pub saved-at-most : (p : Progress) → length (saved_text p) ≤ longest_text
 saved-at-most (first line) = omega (arith, line-at-most 0 1 0 0)
-saved-at-most (early number s line) = sent-at-most s
 saved-at-most (later number s line) = sent-at-most s
 saved-at-most stopped = omega (arith, line-at-most 0 1 0 0)
 

@@ -12,14 +12,10 @@ returns-2 : tie.Need-returns-2
 returns-2 c = rw (c.before.before.before.parsed.given.1, c.enum_told.given.1)
 
 returns-3 : tie.Need-returns-3
-returns-3 c = rw (c.before.before.before.parsed.given.1, c.enum-told2.given.1)
-
-returns-4 : tie.Need-returns-4
-returns-4 c = rw c.before.parsed2.given.1
+returns-3 c = rw c.before.parsed2.given.1
 
 pub asked-by-spec : {M : Type 1} → statement M
 asked-by-spec =
     tie.close
     (tie.spec
-    (λ c. search rules) (λ c. search rules) (λ c κs. search rules) (λ c. search rules) (λ c. search rules) (λ c. search rules) returns returns-2
-    returns-3 returns-4)
+    (λ c. search rules) (λ c. search rules) (λ c κs. search rules) (λ c. search rules) (λ c. search rules) returns returns-2 returns-3)

@@ -7,7 +7,7 @@ use denote.Enum.Declared.{tag_of}
 use types.Run.{OneOf, miss}
 use Rattle.model.specs.contracts.event.Action.{the_type}
 use Rattle.model.specs.declared.event.Action.{Action}
-use Rattle.model.specs.declared.event.Action.TheVariants.{Enpart, Envp, Call, Ret, Read, Write, Fetch, Protect, Config, Secure, Flush, Rreg, Wreg, Tpr, Ack, Pstat, Vstat, Caps, Cri, Crm, Vina, Vclear}
+use Rattle.model.specs.declared.event.Action.TheVariants.{Enpart, Envp, Call, Ret, Read, Write, Fetch, Protect, Config, Secure, Flush, Rreg, Wreg, Tpr, Ack, Pstat, Vstat, Caps, Cri, Crm}
 use Rattle.model.specs.declared.quantity.Processor.{Processor}
 use Rattle.asked.specs.AskedAccess.{asked_of}
 use Rattle.asked.specs.declared.Asked.TheVariants.{Nothing}
@@ -16,7 +16,7 @@ use Rattle.asked.proofs.asked_of.Tie as tie
 
 -- The other actions, by their places among all.
 abbrev others : List ℕ
-others = 0 ∷ 1 ∷ 2 ∷ 3 ∷ 7 ∷ 8 ∷ 9 ∷ 10 ∷ 11 ∷ 12 ∷ 13 ∷ 14 ∷ 15 ∷ 16 ∷ 17 ∷ 18 ∷ 19 ∷ 20 ∷ 21 ∷ []
+others = 0 ∷ 1 ∷ 2 ∷ 3 ∷ 7 ∷ 8 ∷ 9 ∷ 10 ∷ 11 ∷ 12 ∷ 13 ∷ 14 ∷ 15 ∷ 16 ∷ 17 ∷ 18 ∷ 19 ∷ []
 
 other : (v : Processor) (mode : ℕ) (a : Action) → OneOf others (tag_of the_type a) → Nothing ≡ asked_of v mode a
 other v mode (Enpart t mbec) e = refl
@@ -39,8 +39,6 @@ other v mode Vstat e = refl
 other v mode Caps e = refl
 other v mode (Cri word) e = refl
 other v mode (Crm n mask) e = refl
-other v mode (Vina word) e = refl
-other v mode Vclear e = refl
 
 returns : tie.Need-returns
 returns c = rw c.before.action.given.1

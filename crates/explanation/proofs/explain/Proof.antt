@@ -9,15 +9,15 @@ use Rattle.explanation.proofs.explain.Tie as tie
 
 returns : tie.Need-returns
 unfolding partition_of
-returns c s v acts holds =
-    let k = c.before.before.before.before.before in
+returns c s v acts holds host =
+    let k = c.before.before.before.before in
     let a = k.before.before.before.before.args in
-    host-explained acts holds a.request.mode a.request.page a.request.access k.before.before.active-of.result k.before.before.active-of.ensures k.before.counted-set.result k.before.counted-set.ensures k.denying-set.result.0 k.denying-set.ensures c.before.before.host-mask-at.result c.before.before.host-mask-at.ensures (eq-eqb _ 0 c.before.before.before.if1.true)
+    host-explained acts holds a.request.mode a.request.page a.request.access k.before.before.active-of.result k.before.before.active-of.ensures k.before.counted-set.result k.before.counted-set.ensures k.denying-set.result.0 k.denying-set.ensures a.setup.host_mask host (eq-eqb _ 0 c.before.before.if1.true)
     ∙ sym (rw (c.host-only.ensures, c.before.host-denies.ensures))
 
 returns-2 : tie.Need-returns-2
 unfolding partition_of
-returns-2 c s v acts holds =
+returns-2 c s v acts holds host =
     let k = c.before.before.before.before.before.before in
     let a = k.before.before.before.before.args in
     levels-explained acts holds a.request.mode a.request.page a.request.access k.before.before.active-of.result k.before.before.active-of.ensures k.before.counted-set.result k.before.counted-set.ensures k.denying-set.result.0 k.denying-set.ensures (ne_eqb _ 0 c.before.before.before.before.if1.false)
@@ -27,5 +27,5 @@ pub explain-spec : {M : Type 1} → statement M
 explain-spec =
     tie.close
     (tie.spec
-    (λ c κs. search rules) (λ c κs. search rules) (λ c κs. search rules) (λ c κs. search rules) (λ c κs. search rules) (λ c κs. search rules) returns
+    (λ c κs. search rules) (λ c κs. search rules) (λ c κs. search rules) (λ c κs. search rules) (λ c κs. search rules) returns
     (λ c κs. search rules) (λ c κs. search rules) (λ c κs. search rules) (λ c κs. search rules) returns-2)

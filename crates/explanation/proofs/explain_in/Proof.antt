@@ -2,7 +2,7 @@
 use Prim.Native.Nat.{◌<◌}
 use native.Mathlib.Omega.{arith}
 use borrow.Author.Rules.{rules}
-use Rattle.explanation.proofs.LentRecord.{index-low, acts, there, missing}
+use Rattle.explanation.proofs.LentRecord.{index-low, acts, hosted, there, missing}
 use Rattle.explanation.proofs.explain_in.Statement.{statement}
 use Rattle.explanation.proofs.explain_in.Tie as tie
 
@@ -16,13 +16,13 @@ returns : tie.Need-returns
 returns c words =
     let a = c.before.before.before.before.before.before.args in
     let holds = there a.setup a.levels.now a.masks.now a.vps.now words a.vp.0 c.before.before.if1.true in
-    c.explain.ensures _ _ (acts a.setup a.levels.now a.masks.now a.vps.now words a.vp.0 _ holds) holds
+    c.explain.ensures _ _ (acts a.setup a.levels.now a.masks.now a.vps.now words a.vp.0 _ holds) holds (hosted a.setup a.levels.now a.masks.now a.vps.now words _)
 
 returns-2 : tie.Need-returns-2
 returns-2 c words =
     let a = c.before.before.before.before.before.before.args in
     let holds = missing a.setup a.levels.now a.masks.now a.vps.now words a.vp.0 c.before.before.if1.false in
-    c.explain2.ensures _ _ (acts a.setup a.levels.now a.masks.now a.vps.now words a.vp.0 _ holds) holds
+    c.explain2.ensures _ _ (acts a.setup a.levels.now a.masks.now a.vps.now words a.vp.0 _ holds) holds (hosted a.setup a.levels.now a.masks.now a.vps.now words _)
 
 pub explain-in-spec : {M : Type 1} → statement M
 explain-in-spec = tie.close (tie.spec mul-explain index-1-explain (λ c κs. search rules) returns (λ c κs. search rules) returns-2)

@@ -24,19 +24,13 @@ returns-3 : tie.Need-returns-3
 returns-3 c =
     let told = c.before.before in
     let ended = told.before.before.before in
-    rw (← ended.finish.ensures.0, told.enum-told3.given.1) c.write-machine2.ensures
-
-returns-4 : tie.Need-returns-4
-returns-4 c =
-    let told = c.before.before in
-    let ended = told.before.before.before in
     let wrote = c.write-line-zero2.ensures in
     let bounds = line-zero-within {used = 0} {input = []} ended.before.before.args.out.now 1 (omega arith) (omega (arith, c.before.write-line-zero-arg2.given)) wrote.0 wrote.1 in
-    rw (← ended.finish.ensures.0, told.enum-told4.given.1) (wrote.0, (wrote.1, bounds))
+    rw (← ended.finish.ensures.0, told.enum-told3.given.1) (wrote.0, (wrote.1, bounds))
 
 pub save-spec : {M : Type 1} → statement M
 save-spec =
     tie.close
     (tie.spec
     (λ c κs. search rules) (λ c. search rules) (λ c κs. search rules) (λ c. search rules) (λ c κs. search rules) (λ c. search rules)
-    (λ c κs. search rules) (λ c. search rules) (λ c κs. search rules) returns returns-2 returns-3 returns-4)
+    (λ c κs. search rules) returns returns-2 returns-3)

@@ -9,17 +9,14 @@ returns : tie.Need-returns
 returns c = rw c.before.before.enum_told.given.1 c.end-first.ensures
 
 returns-2 : tie.Need-returns-2
-returns-2 c = rw c.before.before.enum-told2.given.1 c.end-early.ensures
+returns-2 c = rw c.before.before.enum-told2.given.1 c.end_later.ensures
 
 returns-3 : tie.Need-returns-3
-returns-3 c = rw c.before.before.enum-told3.given.1 c.end_later.ensures
-
-returns-4 : tie.Need-returns-4
 unfolding ended line_text
-returns-4 c = rw c.enum-told4.given.1 (record { progress = refl; wrote = refl; written = refl; within = omega arith })
+returns-3 c = rw c.enum-told3.given.1 (record { progress = refl; wrote = refl; written = refl; within = omega arith })
 
 pub end-line-spec : {M : Type 1} → statement M
 end-line-spec =
     tie.close
     (tie.spec
-    (λ c. search rules) (λ c κs. c.before.enum_told.given.1) (λ c. search rules) (λ c κs. search rules) (λ c. search rules) (λ c κs. search rules) (λ c. search rules) returns returns-2 returns-3 returns-4)
+    (λ c. search rules) (λ c κs. c.before.enum_told.given.1) (λ c. search rules) (λ c κs. search rules) (λ c. search rules) returns returns-2 returns-3)

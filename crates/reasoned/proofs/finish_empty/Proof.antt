@@ -12,13 +12,10 @@ returns-2 : tie.Need-returns-2
 returns-2 c = rw (c.enum-told2.given.1, c.before.before.requires) (refl, (refl, omega arith))
 
 returns-3 : tie.Need-returns-3
-returns-3 c = rw (c.enum-told3.given.1, c.before.before.requires) (refl, (refl, omega arith))
-
-returns-4 : tie.Need-returns-4
-returns-4 c = rw c.enum-told4.given.1 (refl, (refl, omega arith))
+returns-3 c = rw c.enum-told3.given.1 (refl, (refl, omega arith))
 
 pub finish-empty-spec : {M : Type 1} → statement M
 finish-empty-spec =
     tie.close
     (tie.spec
-    (λ c. search rules) (λ c κs. search rules) (λ c. search rules) (λ c. search rules) (λ c. search rules) returns returns-2 returns-3 returns-4)
+    (λ c. search rules) (λ c κs. search rules) (λ c. search rules) (λ c. search rules) returns returns-2 returns-3)

@@ -67,7 +67,7 @@ returns-7 c s v h =
     let a = c.before.before.before.before.before.before.before.before.before.before.before.before.before.before.before.before.before.before.before.before.before.before.before.args in
     record-entered s (rule_of s v a.mode (Rreg a.target a.register)) h {l = c.before.before.before.before.if7.receiver}
     (rw (the-maximum s h.shaped, the-actor h, the-enabled-on h, h.shaped, h.holds, le-ltb _ _ c.before.before.before.before.before.before.before.before.before.before.before.before.before.before.before.before.before.before.before.before.before.if1.false, le-ltb _ _ c.before.before.before.before.before.before.before.before.before.before.before.before.before.before.before.before.before.before.before.before.if2.false, ← c.before.before.before.before.before.before.before.before.before.before.before.before.before.before.before.before.before.before.before.is-user.ensures, c.before.before.before.before.before.before.before.before.before.before.before.before.before.before.before.before.before.before.if3.false, le-ltb _ _ c.before.before.before.before.before.before.before.before.before.before.before.before.before.before.before.if4.false, ← c.before.before.before.before.before.before.before.before.before.before.before.before.before.active-of.ensures, le-ltb _ _ c.before.before.before.before.before.before.before.before.before.before.if5.false, ← c.before.before.before.before.before.before.before.before.enabled-at.ensures, c.before.before.before.before.before.before.before.if6.false, ← told c.before.before.before.before, lt-ltb _ _ c.before.before.if8.true))
-    c.intercept.ensures
+    c.intercept.ensures.1 ∙ rw c.intercept.ensures.0
 
 returns-8 : tie.Need-returns-8
 unfolding acted rule_of first_of

@@ -74,7 +74,7 @@ returns-8 c s v h =
     let a = c.before.before.before.before.before.before.before.before.before.before.before.before.before.before.before.before.before.before.before.before.before.before.before.before.before.before.args in
     record-entered s (rule_of s v a.mode (Wreg a.target a.register a.value)) h {l = c.before.before.before.before.if8.receiver}
     (rw (the-maximum s h.shaped, the-actor h, the-enabled-on h, h.shaped, h.holds, le-ltb _ _ c.before.before.before.before.before.before.before.before.before.before.before.before.before.before.before.before.before.before.before.before.before.before.before.before.if1.false, le-ltb _ _ c.before.before.before.before.before.before.before.before.before.before.before.before.before.before.before.before.before.before.before.before.before.before.before.if2.false, ← c.before.before.before.before.before.before.before.before.before.before.before.before.before.before.before.before.before.before.before.before.before.before.has-bit.ensures, c.before.before.before.before.before.before.before.before.before.before.before.before.before.before.before.before.before.before.before.before.if3.false, ← c.before.before.before.before.before.before.before.before.before.before.before.before.before.before.before.before.before.before.before.is-user.ensures, c.before.before.before.before.before.before.before.before.before.before.before.before.before.before.before.before.before.before.if4.false, le-ltb _ _ c.before.before.before.before.before.before.before.before.before.before.before.before.before.before.before.if5.false, ← c.before.before.before.before.before.before.before.before.before.before.before.before.before.active-of.ensures, le-ltb _ _ c.before.before.before.before.before.before.before.before.before.before.if6.false, ← c.before.before.before.before.before.before.before.before.enabled-at.ensures, c.before.before.before.before.before.before.before.if7.false, ← told c.before.before.before.before, lt-ltb _ _ c.before.before.if9.true))
-    c.intercept.ensures
+    c.intercept.ensures.1 ∙ rw c.intercept.ensures.0
 
 returns-9 : tie.Need-returns-9
 unfolding acted rule_of first_of

@@ -5,7 +5,7 @@ use native.Mathlib.Nat.{sub-zero}
 use lib.Seq.{sets}
 use Rattle.session.specs.Session.{Ended, ended, extended, kept, progress_of, room_for, state_in}
 use Rattle.chunk.specs.Chunk.{held}
-use Rattle.session.proofs.Ending.{between_in, ended-between, ended-kept, room_in, stopped-in}
+use Rattle.session.proofs.Ending.{ended-kept, ended-later, later-in, room_in, stopped-in}
 use Rattle.session.proofs.Feeding.{Feeds, fed-whole, feeds-full, feeds-last, feeds-line, feeds-size, feeds-start, feeds-stopped, feeds-then}
 use Rattle.session.proofs.feed.Statement.{statement}
 use Rattle.session.proofs.feed.Tie as tie
@@ -55,9 +55,9 @@ returns-2 c =
     let test = rest.before.before in
     let a = test.before.before.before.before.before.before.before.args in
     let s = a.start in
-    fed-whole (progress_of s) a.chunk.now a.out.now rest.feed-rest.result rest.feed-rest.new.1.1.1.0
-    (rw (between_in s.phase s.number (state_in s) s.line s.length (rw test.before.before.is-past.ensures at test.if2.true))
-    rest.feed-rest.ensures)
+    fed-whole (progress_of s) a.chunk.now a.out.now rest.feed-later.result rest.feed-later.new.1.1.1.0
+    (rw (later-in s.phase s.number (state_in s) s.line s.length (rw test.before.before.is_later.ensures at test.if2.true))
+    rest.feed-later.ensures)
 
 returns-3 : tie.Need-returns-3
 returns-3 c =
@@ -82,13 +82,13 @@ returns-5 c =
     fed-whole _ _ _ (record { session = s; used = length ended.before.before.before.before.before.before.before.before.before.before.before.before.before.before.args.chunk.now; wrote = ended.end_line.result.wrote }) _
     (feeds-stopped (one-fed ended) (stopped-in s.phase s.number (state_in s) (held s.line s.length) (sym c.before.has-stopped2.ensures ∙ c.if5.true)) _ refl refl refl)
 
-add-feed-rest : tie.Need-overflow-add-feed-rest
-add-feed-rest c =
+add-feed-later : tie.Need-overflow-add-feed-later
+add-feed-later c =
     let test = c.before.before.before.before.before.before.before.before.before.before in
     omega (arith, test.if3.false, test.before.before.before.before.before.before.before.before.before.well-formed)
 
-feed-rest-requires-2 : tie.Need-feed-rest-requires-2
-feed-rest-requires-2 c κs =
+feed-later-requires-2 : tie.Need-feed-later-requires-2
+feed-later-requires-2 c κs =
     let w = one-fed c.before.before.before.before.before.before in
     (w.place.1, omega (arith, w.wrote, feeds-size w))
 
@@ -98,15 +98,15 @@ returns-6 c =
     let test = rest.before.before in
     let ended = test.before.before.before.before.before in
     let s = ended.end_line.result.session in
-    fed-whole _ _ _ rest.feed-rest2.result _
+    fed-whole _ _ _ rest.feed-later2.result _
     (feeds-then (one-fed ended) _ _
-    (rw (ended-between _ s.phase s.number (state_in s) (held s.line s.length) (sym test.before.has-stopped2.ensures ∙ test.if5.false) ended.end_line.ensures.progress)
-    rest.feed-rest2.ensures))
+    (rw (ended-later _ s.phase s.number (state_in s) (held s.line s.length) (sym test.before.has-stopped2.ensures ∙ test.if5.false) ended.end_line.ensures.progress)
+    rest.feed-later2.ensures))
 
 pub feed-spec : {M : Type 1} → statement M
 feed-spec =
     tie.close
     (tie.spec
     (λ c κs. tt) returns (λ c κs. tt) (λ c κs. search rules) (λ c. search rules) returns-2 (λ c κs. tt) (λ c κs. tt) returns-3
-    returns-4 slice-aggregate-keep (λ c κs. tt) (λ c κs. search rules) (λ c κs. tt) (λ c. search rules) returns-5 add-feed-rest
-    feed-rest-requires-2 (λ c. search rules) returns-6)
+    returns-4 slice-aggregate-keep (λ c κs. tt) (λ c κs. search rules) (λ c κs. tt) (λ c. search rules) returns-5 add-feed-later
+    feed-later-requires-2 (λ c. search rules) returns-6)

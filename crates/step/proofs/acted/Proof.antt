@@ -66,7 +66,7 @@ module _ (c : tie.After-active-of) (a : Action) (told : c.before.before.before.b
   its-partition : partition old ≡ partition_of x.args.levels.now x.args.masks.now
   its-partition = keeps x.args.setup x.args.levels.now x.args.masks.now rows x.args.words.now
 
-  its-words : Lends x.args.words.now old
+  its-words : Lends x.args.setup.host_mask x.args.words.now old
   its-words = lends x.args.setup x.args.levels.now x.args.masks.now rows x.args.words.now
 
   other-runs : (w : Processor) → is_index x.args.setup.processors w.0 ≡ true → Runs x.args.setup.shape (vp_of (get_or rows w.0 [])) old w.0
@@ -177,12 +177,6 @@ returns-20 c = on-record c.before.before.before.before.before _ c.before.before.
 returns-21 : tie.Need-returns-21
 returns-21 c = on-record c.before.before.before.before.before _ c.before.before.before.action15.given.1 _ (c.crm.ensures _ _ (its-runs c.before.before.before.before.before _ c.before.before.before.action15.given.1))
 
-returns-22 : tie.Need-returns-22
-returns-22 c = on-record c.before.before.before.before.before _ c.before.before.before.action16.given.1 _ (c.vina.ensures _ _ (its-runs c.before.before.before.before.before _ c.before.before.before.action16.given.1))
-
-returns-23 : tie.Need-returns-23
-returns-23 c = on-record c.before.before.before.before _ c.before.before.enum-told6.given.1 _ (c.vclear.ensures _ _ (its-runs c.before.before.before.before _ c.before.before.enum-told6.given.1))
-
 pub acted-spec : {M : Type 1} → statement M
 acted-spec =
     tie.close
@@ -220,10 +214,6 @@ acted-spec =
     (λ c. v_low c.before.before.before.before.before) (λ c κs. search rules)
     (λ c. search rules) (λ c. record { fits = omega (arith, v_low c.before.before.before.before.before) })
     (λ c. v_low c.before.before.before.before.before) (λ c κs. search rules)
-    (λ c. search rules) (λ c. record { fits = omega (arith, v_low c.before.before.before.before.before) })
-    (λ c. v_low c.before.before.before.before.before) (λ c κs. search rules)
-    (λ c. search rules) (λ c. record { fits = omega (arith, v_low c.before.before.before.before) })
-    (λ c. v_low c.before.before.before.before) (λ c κs. search rules)
     returns-2 returns-3 returns-4 returns-5 (λ c. search rules) returns-6 (λ c. search rules)
     returns-7 (λ c. search rules) returns-8 returns-9 returns-10 returns-11 returns-12 returns-13 returns-14
-    returns-15 returns-16 returns-17 returns-18 returns-19 returns-20 returns-21 returns-22 returns-23)
+    returns-15 returns-16 returns-17 returns-18 returns-19 returns-20 returns-21)

@@ -6,10 +6,9 @@ use Prim.Native.Nat.{◌<◌}
 use native.Mathlib.Omega.{arith}
 use borrow.Author.Tests.{not-false, not-true, lt-ltb, le-ltb}
 use Rattle.model.specs.State.{processors, is_index}
-use Rattle.model.specs.Step.{rule, maker, ruled}
 use Rattle.promise.specs.Promise.{outcome_of}
 use Rattle.state.specs.Lent.{machine_of}
-use Rattle.step.proofs.LentParts.{index-low, held, runs, record-left, partition-left}
+use Rattle.step.proofs.LentParts.{index-low, runs, record-left}
 use Rattle.step.proofs.MissingProcessor.{made, no-maker, no_mode, no-interrupted}
 use borrow.Author.Rules.{rules}
 use Rattle.step.proofs.ruled.Statement.{statement}
@@ -64,19 +63,10 @@ returns-5 c =
     (sym (c.int.ensures _ _ (runs x.args.setup x.args.levels.now x.args.masks.now x.args.vps.now x.args.words.now _ there)
     ∙ ap (outcome_of _) (record-left x.args.setup x.args.levels.now x.args.masks.now x.args.vps.now x.args.words.now _ there _ c.before.before.record-count.ensures)))
 
--- A host line, which is late.
-returns-6 : tie.Need-returns-6
-unfolding ruled rule maker
-returns-6 c =
-    let x = c.before.before.before.before.before.before in
-    rw c.before.before.before.event3.given.1
-    (sym (c.host.ensures _ 0 _ x.args.levels.now (held x.args.setup x.args.levels.now x.args.masks.now x.args.vps.now x.args.words.now 0)
-    ∙ ap (outcome_of _) (partition-left x.args.setup x.args.levels.now x.args.masks.now x.args.vps.now x.args.words.now _ _)))
-
 pub ruled-spec : {M : Type 1} → statement M
 ruled-spec =
     tie.close
     (tie.spec
     (λ c. search rules) (λ c κs. search rules) returns returns-2 (λ c κs. search rules) acted-requires (λ c. search rules)
     (λ c κs. search rules) returns-3 (λ c κs. search rules) (λ c. record { fits = omega (arith, on-low c) }) (λ c. on-low c)
-    (λ c κs. search rules) (λ c. search rules) (λ c κs. search rules) (λ c. search rules) returns-4 returns-5 returns-6)
+    (λ c κs. search rules) (λ c. search rules) returns-4 returns-5)

@@ -13,16 +13,15 @@ below : (c : tie.Then1) → c.before.before.args.target.0 < 4
 below c = level-found _ _ c.before.is-level.ensures c.if1.true
 
 set-row-requires : tie.Need-set-row-requires
-set-row-requires c κs = below c.before.before.before.before.before.before.before.before.before.before.before.before.before.before
+set-row-requires c κs = below c.before.before.before.before.before.before.before.before.before.before.before.before
 
 enable-requires : tie.Need-enable-requires
-enable-requires c κs = below c.before.before.before.before.before.before.before.before.before.before.before.before.before.before.before.before
+enable-requires c κs = below c.before.before.before.before.before.before.before.before.before.before.before.before.before.before
 
 returns : tie.Need-returns
 returns c =
     let row = c.before.before in
-    let vina = row.before.before.before in
-    let watch = vina.before.before in
+    let watch = row.before.before.before in
     let four = watch.before.before in
     let three = four.before.before in
     let two = three.before.before in
@@ -30,7 +29,7 @@ returns c =
     let test = one.before.before in
     rw c.enable.ensures.0
     (started-by _ _ _ _ _ _ _ (sym test.before.is-level.ensures ∙ test.if1.true) one.level-word.ensures.1 c.enable.ensures.1 row.set-row.ensures.1
-    (rw (← vina.vina-of.ensures, ← watch.watch-of.ensures, ← one.level-word.ensures.0, ← two.level-word2.ensures.0, ← three.level-word3.ensures.0, ← four.level-word4.ensures.0) (row.set-row.ensures.0 ∙ row.before.before.started-row.ensures)))
+    (rw (← watch.watch-of.ensures, ← one.level-word.ensures.0, ← two.level-word2.ensures.0, ← three.level-word3.ensures.0, ← four.level-word4.ensures.0) (row.set-row.ensures.0 ∙ row.before.before.started-row.ensures)))
 
 returns-2 : tie.Need-returns-2
 unfolding started with_level
@@ -41,4 +40,4 @@ start_spec =
     tie.close
     (tie.spec
     (λ c κs. search rules) (λ c κs. search rules) (λ c. search rules) (λ c κs. search rules) (λ c. search rules) (λ c κs. search rules)
-    (λ c. search rules) (λ c κs. search rules) (λ c κs. search rules) (λ c κs. search rules) (λ c κs. search rules) set-row-requires enable-requires returns returns-2)
+    (λ c. search rules) (λ c κs. search rules) (λ c. search rules) (λ c κs. search rules) set-row-requires enable-requires returns returns-2)

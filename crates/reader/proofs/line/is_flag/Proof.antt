@@ -80,18 +80,6 @@ returns-19 : tie.Need-returns-19
 unfolding is_flag
 returns-19 c = rw c.enum-told19.given.1
 
-returns-20 : tie.Need-returns-20
-unfolding is_flag
-returns-20 c = rw c.enum-told20.given.1
-
-returns-21 : tie.Need-returns-21
-unfolding is_flag
-returns-21 c = rw c.enum-told21.given.1
-
-returns-22 : tie.Need-returns-22
-unfolding is_flag
-returns-22 c = rw c.enum-told22.given.1
-
 pub is-flag-spec : {M : Type 1} → statement M
 is-flag-spec =
     tie.close
@@ -99,7 +87,6 @@ is-flag-spec =
     (λ c. search rules) (λ c. search rules) (λ c. search rules) (λ c. search rules) (λ c. search rules)
     (λ c. search rules) (λ c. search rules) (λ c. search rules) (λ c. search rules) (λ c. search rules)
     (λ c. search rules) (λ c. search rules) (λ c. search rules) (λ c. search rules) (λ c. search rules)
-    (λ c. search rules) (λ c. search rules) (λ c. search rules) (λ c. search rules) (λ c. search rules)
-    (λ c. search rules) (λ c. search rules) returns returns-2 returns-3 returns-4
+    (λ c. search rules) (λ c. search rules) (λ c. search rules) (λ c. search rules) returns returns-2 returns-3 returns-4
     returns-5 returns-6 returns-7 returns-8 returns-9 returns-10 returns-11 returns-12 returns-13 returns-14 returns-15
-    returns-16 returns-17 returns-18 returns-19 returns-20 returns-21 returns-22)
+    returns-16 returns-17 returns-18 returns-19)

@@ -206,39 +206,6 @@ set-in-requires-13 : tie.Need-set-in-requires-13
 unfolding Room
 set-in-requires-13 c κs = omega (arith, rw c.before.before.before.place19.given.1 at c.before.before.before.before.before.requires, c.in-row11.ensures)
 
-enum-known-place-20 : tie.Need-enum-known-place-20
-enum-known-place-20 c = search rules
-
-mul-set-mask-word-2 : tie.Need-overflow-mul-set-mask-word-2
-unfolding Room
-mul-set-mask-word-2 c = omega (arith, rw c.before.before.before.place20.given.1 at c.before.before.before.before.before.requires)
-
-set-mask-word-requires-2 : tie.Need-set-mask-word-requires-2
-unfolding Room
-set-mask-word-requires-2 c κs = omega (arith, rw c.before.before.before.place20.given.1 at c.before.before.before.before.before.requires)
-
-enum-known-place-21 : tie.Need-enum-known-place-21
-enum-known-place-21 c = search rules
-
-in-row-requires-12 : tie.Need-in-row-requires-12
-unfolding Room
-in-row-requires-12 c κs = omega (arith, rw c.before.before.place21.given.1 at c.before.before.before.before.requires)
-
-set-in-requires-14 : tie.Need-set-in-requires-14
-unfolding Room
-set-in-requires-14 c κs = omega (arith, rw c.before.before.before.place21.given.1 at c.before.before.before.before.before.requires, c.in-row12.ensures)
-
-enum-known-place-22 : tie.Need-enum-known-place-22
-enum-known-place-22 c = search rules
-
-in-row-requires-13 : tie.Need-in-row-requires-13
-unfolding Room
-in-row-requires-13 c κs = omega (arith, rw c.before.before.place22.given.1 at c.before.before.before.before.requires)
-
-set-in-requires-15 : tie.Need-set-in-requires-15
-unfolding Room
-set-in-requires-15 c κs = omega (arith, rw c.before.before.before.place22.given.1 at c.before.before.before.before.before.requires, c.in-row13.ensures)
-
 returns : tie.Need-returns
 unfolding slot_of
 returns c = rw (c.before.before.before.place.given.1, c.set-level-flag.ensures)
@@ -315,18 +282,6 @@ returns-19 : tie.Need-returns-19
 unfolding slot_of
 returns-19 c = rw (c.before.before.before.before.place19.given.1, c.set-in13.ensures, c.before.in-row11.ensures.0)
 
-returns-20 : tie.Need-returns-20
-unfolding slot_of
-returns-20 c = rw (c.before.before.before.before.place20.given.1, c.set-mask-word2.ensures)
-
-returns-21 : tie.Need-returns-21
-unfolding slot_of
-returns-21 c = rw (c.before.before.before.before.place21.given.1, c.set-in14.ensures, c.before.in-row12.ensures.0)
-
-returns-22 : tie.Need-returns-22
-unfolding slot_of
-returns-22 c = rw (c.before.before.before.before.place22.given.1, c.set-in15.ensures, c.before.in-row13.ensures.0)
-
 pub store_spec : {M : Type 1} → statement M
 store_spec =
     tie.close
@@ -386,15 +341,6 @@ store_spec =
     enum-known-place-19
     in-row-requires-11
     set-in-requires-13
-    enum-known-place-20
-    mul-set-mask-word-2
-    set-mask-word-requires-2
-    enum-known-place-21
-    in-row-requires-12
-    set-in-requires-14
-    enum-known-place-22
-    in-row-requires-13
-    set-in-requires-15
     returns
     returns-2
     returns-3
@@ -413,7 +359,4 @@ store_spec =
     returns-16
     returns-17
     returns-18
-    returns-19
-    returns-20
-    returns-21
-    returns-22)
+    returns-19)

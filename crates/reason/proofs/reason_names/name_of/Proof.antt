@@ -193,18 +193,6 @@ returns-47 : tie.Need-returns-47
 unfolding reason_name
 returns-47 c = (rw c.before.before.enum-told47.given.1, omega arith)
 
-returns-48 : tie.Need-returns-48
-unfolding reason_name
-returns-48 c = (rw c.before.before.enum-told48.given.1, omega arith)
-
-returns-49 : tie.Need-returns-49
-unfolding reason_name
-returns-49 c = (rw c.before.before.enum-told49.given.1, omega arith)
-
-returns-50 : tie.Need-returns-50
-unfolding reason_name
-returns-50 c = (rw c.before.before.enum-told50.given.1, omega arith)
-
 pub name-of-spec : {M : Type 1} → statement M
 name-of-spec =
     tie.close
@@ -218,10 +206,10 @@ name-of-spec =
     (λ c. search rules) (λ c. search rules) (λ c. search rules) (λ c. search rules) (λ c. search rules)
     (λ c. search rules) (λ c. search rules) (λ c. search rules) (λ c. search rules) (λ c. search rules)
     (λ c. search rules) (λ c. search rules) (λ c. search rules) (λ c. search rules) (λ c. search rules)
-    (λ c. search rules) (λ c. search rules) (λ c. search rules) (λ c. search rules) (λ c. search rules)
+    (λ c. search rules) (λ c. search rules)
     returns returns-2 returns-3 returns-4 returns-5 returns-6 returns-7 returns-8 returns-9
     returns-10 returns-11 returns-12 returns-13 returns-14 returns-15 returns-16 returns-17 returns-18
     returns-19 returns-20 returns-21 returns-22 returns-23 returns-24 returns-25 returns-26 returns-27
     returns-28 returns-29 returns-30 returns-31 returns-32 returns-33 returns-34 returns-35 returns-36
     returns-37 returns-38 returns-39 returns-40 returns-41 returns-42 returns-43 returns-44 returns-45
-    returns-46 returns-47 returns-48 returns-49 returns-50)
+    returns-46 returns-47)

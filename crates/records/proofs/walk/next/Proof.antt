@@ -80,18 +80,6 @@ returns-19 : tie.Need-returns-19
 unfolding next_of
 returns-19 c = rw (c.before.before.before.place19.given.1, c.to-cr-mask.ensures, c.before.upper-after2.ensures)
 
-returns-20 : tie.Need-returns-20
-unfolding next_of
-returns-20 c = rw c.before.before.place20.given.1 c.after-host-mask.ensures
-
-returns-21 : tie.Need-returns-21
-unfolding next_of
-returns-21 c = rw (c.before.before.before.place21.given.1, c.to-vina-word.ensures, c.before.upper-after3.ensures)
-
-returns-22 : tie.Need-returns-22
-unfolding next_of
-returns-22 c = rw (c.before.before.before.place22.given.1, c.to-asserted.ensures, c.before.upper-after4.ensures)
-
 pub next-spec : {M : Type 1} → statement M
 next-spec =
     tie.close
@@ -102,8 +90,6 @@ next-spec =
     (λ c. search rules) (λ c κs. search rules) (λ c. search rules) (λ c. search rules) (λ c. search rules)
     (λ c. search rules) (λ c κs. search rules) (λ c. search rules) (λ c κs. search rules) (λ c. search rules)
     (λ c κs. search rules) (λ c. search rules) (λ c κs. search rules) (λ c κs. search rules) (λ c. search rules)
-    (λ c. search rules) (λ c κs. search rules) (λ c κs. search rules) (λ c. search rules) (λ c κs. search rules)
-    (λ c. search rules) (λ c κs. search rules) (λ c κs. search rules) (λ c. search rules) (λ c κs. search rules) (λ c κs. search rules)
-    returns returns-2 returns-3 returns-4 returns-5
+    (λ c. search rules) (λ c κs. search rules) (λ c κs. search rules) returns returns-2 returns-3 returns-4 returns-5
     returns-6 returns-7 returns-8 returns-9 returns-10 returns-11 returns-12 returns-13 returns-14 returns-15 returns-16
-    returns-17 returns-18 returns-19 returns-20 returns-21 returns-22)
+    returns-17 returns-18 returns-19)

@@ -7,7 +7,7 @@ returns : tie.Need-returns
 returns c = rw c.before.upper.given.1
 
 returns-2 : tie.Need-returns-2
-returns-2 c = rw (c.before.enum_told.given.1, c.to-host-mask.ensures)
+returns-2 c = rw c.enum_told.given.1
 
 pub to-cr-mask-spec : {M : Type 1} → statement M
-to-cr-mask-spec = tie.close (tie.spec (λ c. search rules) (λ c. search rules) (λ c κs. search rules) returns returns-2)
+to-cr-mask-spec = tie.close (tie.spec (λ c. search rules) (λ c. search rules) returns returns-2)

@@ -21,13 +21,9 @@ returns c =
 returns-2 : tie.Need-returns-2
 returns-2 c = rw c.before.before.before.enum_told.given.1
 
-returns-3 : tie.Need-returns-3
-returns-3 c = rw c.before.before.enum-told2.given.1
-
 pub event-spec : {M : Type 1} → statement M
 event-spec =
     tie.close
     (tie.spec
     (λ c. search rules) (λ c. search rules) (λ c. search rules) (λ c κs. search rules) (λ c. search rules) (λ c. search rules)
-    (λ c. search rules) (λ c. search rules) (λ c. search rules) (λ c. search rules) (λ c. search rules) returns returns-2
-    returns-3)
+    (λ c. search rules) (λ c. search rules) returns returns-2)

@@ -11,14 +11,13 @@ use Rattle.script.proofs.words.word_of.Tie as tie
 returns : tie.Need-returns
 returns c = none-empty words _ refl c.if1.true
 
-returns-14 : tie.Need-returns-14
-returns-14 c =
+returns-13 : tie.Need-returns-13
+returns-13 c =
     let other = c.match.rest in
-    let no-a = other.0.0.0.0.0.0.0.0.0.0.0.1 in
-    let no-c = other.0.0.0.0.0.0.0.0.0.0.1 in
-    let no-e = other.0.0.0.0.0.0.0.0.0.1 in
-    let no-f = other.0.0.0.0.0.0.0.0.1 in
-    let no-h = other.0.0.0.0.0.0.0.1 in
+    let no-a = other.0.0.0.0.0.0.0.0.0.0.1 in
+    let no-c = other.0.0.0.0.0.0.0.0.0.1 in
+    let no-e = other.0.0.0.0.0.0.0.0.1 in
+    let no-f = other.0.0.0.0.0.0.0.1 in
     let no-i = other.0.0.0.0.0.0.1 in
     let no-p = other.0.0.0.0.0.1 in
     let no-r = other.0.0.0.0.1 in
@@ -27,7 +26,7 @@ returns-14 c =
     let no-v = other.0.1 in
     let no-w = other.1 in
     none_first words _ refl
-    (no-i and no-h and no-e and no-e and no-c and no-r and no-r and no-w and no-f and no-p and no-c and no-s and no-f and no-r and no-w and no-t and no-a and no-p and no-v and no-c and no-c and no-c and no-v and no-v and done)
+    (no-i and no-e and no-e and no-c and no-r and no-r and no-w and no-f and no-p and no-c and no-s and no-f and no-r and no-w and no-t and no-a and no-p and no-v and no-c and no-c and no-c and done)
 
 pub word-of-spec : {M : Type 1} → statement M
 word-of-spec =
@@ -39,17 +38,16 @@ word-of-spec =
     (λ c. search rules) (λ c κs. search rules) (λ c. search rules) (λ c κs. search rules) (λ c. search rules) (λ c κs. search rules)
     (λ c. search rules) (λ c κs. search rules) (λ c. search rules) (λ c κs. search rules) (λ c. search rules) (λ c κs. search rules)
     (λ c. search rules) (λ c κs. search rules) (λ c. search rules) (λ c κs. search rules) (λ c. search rules) (λ c κs. search rules)
-    (λ c κs. search rules) (λ c. search rules) (λ c κs. search rules) (λ c. search rules) (λ c κs. search rules)
+    (λ c. search rules) (λ c κs. search rules) (λ c. search rules) (λ c κs. search rules)
     (λ c. unfold with_first in rw c.pick.ensures (by_first words _ 97 refl (omega arith)))
     (λ c. unfold with_first in rw c.word-with-c.ensures (by_first words _ 99 refl (omega arith)))
     (λ c. unfold with_first in rw (c.pick3.ensures, c.before.before.pick2.ensures) (by_first words _ 101 refl (omega arith)))
     (λ c. unfold with_first in rw (c.pick5.ensures, c.before.before.pick4.ensures) (by_first words _ 102 refl (omega arith)))
-    (λ c. unfold with_first in rw c.pick6.ensures (by_first words _ 104 refl (omega arith)))
-    (λ c. unfold with_first in rw c.pick7.ensures (by_first words _ 105 refl (omega arith)))
-    (λ c. unfold with_first in rw (c.pick9.ensures, c.before.before.pick8.ensures) (by_first words _ 112 refl (omega arith)))
-    (λ c. unfold with_first in rw (c.pick12.ensures, c.before.before.pick11.ensures, c.before.before.before.before.pick10.ensures) (by_first words _ 114 refl (omega arith)))
-    (λ c. unfold with_first in rw c.pick13.ensures (by_first words _ 115 refl (omega arith)))
-    (λ c. unfold with_first in rw c.pick14.ensures (by_first words _ 116 refl (omega arith)))
-    (λ c. unfold with_first in rw c.word-with-v.ensures (by_first words _ 118 refl (omega arith)))
+    (λ c. unfold with_first in rw c.pick6.ensures (by_first words _ 105 refl (omega arith)))
+    (λ c. unfold with_first in rw (c.pick8.ensures, c.before.before.pick7.ensures) (by_first words _ 112 refl (omega arith)))
+    (λ c. unfold with_first in rw (c.pick11.ensures, c.before.before.pick10.ensures, c.before.before.before.before.pick9.ensures) (by_first words _ 114 refl (omega arith)))
+    (λ c. unfold with_first in rw c.pick12.ensures (by_first words _ 115 refl (omega arith)))
+    (λ c. unfold with_first in rw c.pick13.ensures (by_first words _ 116 refl (omega arith)))
+    (λ c. unfold with_first in rw c.pick14.ensures (by_first words _ 118 refl (omega arith)))
     (λ c. unfold with_first in rw (c.pick16.ensures, c.before.before.pick15.ensures) (by_first words _ 119 refl (omega arith)))
-    returns-14)
+    returns-13)

@@ -8,18 +8,15 @@ returns : tie.Need-returns
 returns c = let e = c.before.before in rw e.before.before.enum_told.given.1 e.end-first.ensures
 
 returns-2 : tie.Need-returns-2
-returns-2 c = let e = c.before.before in rw e.before.before.enum-told2.given.1 e.end-early.ensures
+returns-2 c = let e = c.before.before in rw e.before.before.enum-told2.given.1 e.end_later.ensures
 
 returns-3 : tie.Need-returns-3
-returns-3 c = let e = c.before.before in rw e.before.before.enum-told3.given.1 e.end_later.ensures
-
-returns-4 : tie.Need-returns-4
 unfolding ended
-returns-4 c = rw c.enum-told4.given.1 (record { progress = refl; wrote = refl; written = refl })
+returns-3 c = rw c.enum-told3.given.1 (record { progress = refl; wrote = refl; written = refl })
 
 pub end-line-spec : {M : Type 1} → statement M
 end-line-spec =
     tie.close
     (tie.spec
-    (λ c. search rules) (λ c κs. search rules) (λ c. search rules) (λ c κs. search rules) (λ c. search rules) (λ c κs. search rules)
-    (λ c. search rules) (λ c. search rules) returns (λ c. search rules) returns-2 (λ c. search rules) returns-3 returns-4)
+    (λ c. search rules) (λ c κs. search rules) (λ c. search rules) (λ c κs. search rules) (λ c. search rules) (λ c. search rules)
+    returns (λ c. search rules) returns-2 returns-3)

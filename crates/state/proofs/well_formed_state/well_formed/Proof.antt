@@ -1,5 +1,5 @@
 -- `well_formed_state::well_formed` meets its contract: the clauses of the rule, each by its own test (`state-formed`). Assumes nothing.
-use Rattle.model.specs.State.{processors, max_level_of, top, pages, shape, partition, enabled_for, mbec_for, config_of, mask_of, host_mask_of}
+use Rattle.model.specs.State.{processors, max_level_of, top, pages, shape, partition, enabled_for, mbec_for, config_of, mask_of}
 use Rattle.model.specs.WellFormed.{well_formed_level}
 use Rattle.partition.specs.PartitionView.{partition_of}
 use Rattle.state.specs.Lent.{machine_of, lent}
@@ -9,10 +9,9 @@ use Rattle.state.proofs.well_formed_state.well_formed.Statement.{statement}
 use Rattle.state.proofs.well_formed_state.well_formed.Tie as tie
 
 returns : tie.Need-returns
-unfolding machine_of partition_of processors max_level_of top pages shape partition well_formed_level enabled_for mbec_for config_of mask_of host_mask_of
+unfolding machine_of partition_of processors max_level_of top pages shape partition well_formed_level enabled_for mbec_for config_of mask_of
 returns c =
-    let low = c.before.before in
-    let levels = low.before.before in
+    let levels = c.before.before.before in
     let three = levels.before in
     let two = three.before.before.before in
     let one = two.before.before.before in
@@ -21,9 +20,8 @@ returns c =
     let a = sized.before.before.before.args in
     let masks = a.masks.now in
     rw (
-      c.before.host-masks-valid.ensures,
-      low.mbec-for.ensures,
-      low.before.valid-mask.ensures,
+      c.before.mbec-for.ensures,
+      c.before.before.valid-mask.ensures,
       levels.well-formed-levels.ensures,
       three.well-formed-place4.ensures masks,
       two.well-formed-place3.ensures masks,
@@ -39,4 +37,4 @@ well-formed-spec =
     (tie.spec
     (λ c κs. search rules) (λ c. search rules) (λ c κs. search rules) (λ c. search rules) (λ c κs. search rules)
     (λ c. search rules) (λ c κs. search rules) (λ c. search rules) (λ c κs. search rules) (λ c κs. search rules)
-    (λ c κs. search rules) (λ c κs. search rules) (λ c κs. search rules) returns)
+    (λ c κs. search rules) (λ c κs. search rules) returns)

@@ -11,16 +11,13 @@ use Rattle.state.proofs.well_formed_vp.well_formed_context.Tie as tie
 returns : tie.Need-returns
 unfolding well_formed_context
 returns c =
-    let vina = c.before.before.before.before in
-    let watch = vina.before.before in
+    let watch = c.before.before.before in
     let vectors = watch.before.before.before in
     let words = vectors.before.before in
     let control = words.before.before.before.before in
     let sets = control.before.before in
     let a = sets.before.before.before.args in
     rw (
-      vina.well-formed-vina.ensures,
-      vina.before.vina-of.ensures,
       watch.intercept-reserved-set.ensures,
       watch.before.watch-of.ensures,
       watch.before.before.none-pending.ensures,
@@ -44,5 +41,4 @@ well-formed-context-spec =
     (tie.spec
     (λ c κs. search rules) (λ c κs. search rules) (λ c κs. search rules) (λ c κs. search rules) (λ c κs. search rules)
     (λ c κs. search rules) (λ c κs. search rules) (λ c κs. search rules) (λ c κs. search rules) (λ c κs. search rules) (λ c. search rules)
-    (λ c κs. search rules) (λ c κs. search rules) (λ c κs. search rules) (λ c κs. search rules) (λ c κs. search rules)
-    (λ c κs. search rules) returns)
+    (λ c κs. search rules) (λ c κs. search rules) (λ c κs. search rules) (λ c κs. search rules) returns)

@@ -76,12 +76,6 @@ row-word-requires-10 c κs = omega (arith, lim c.before.before.before.before.bef
 row-word-requires-11 : tie.Need-row-word-requires-11
 row-word-requires-11 c κs = omega (arith, lim c.before.before.before.before.before c.before.place19.given.1)
 
-row-word-requires-12 : tie.Need-row-word-requires-12
-row-word-requires-12 c κs = omega (arith, lim c.before.before.before.before.before c.before.place21.given.1)
-
-row-word-requires-13 : tie.Need-row-word-requires-13
-row-word-requires-13 c κs = omega (arith, lim c.before.before.before.before.before c.before.place22.given.1)
-
 returns : tie.Need-returns
 returns c = c.number.ensures ∙ ap number c.before.enabled-for.ensures ∙ told c.before.before.before.before.before.before.before c.before.before.before.place.given.1
 
@@ -139,17 +133,8 @@ returns-18 c = c.row-word10.ensures ∙ told c.before.before.before.before.befor
 returns-19 : tie.Need-returns-19
 returns-19 c = c.row-word11.ensures ∙ told c.before.before.before.before.before.before c.before.before.place19.given.1
 
-returns-20 : tie.Need-returns-20
-returns-20 c = c.host-mask-at.ensures ∙ told c.before.before.before.before.before.before c.before.before.place20.given.1
-
-returns-21 : tie.Need-returns-21
-returns-21 c = c.row-word12.ensures ∙ told c.before.before.before.before.before.before c.before.before.place21.given.1
-
-returns-22 : tie.Need-returns-22
-returns-22 c = c.row-word13.ensures ∙ told c.before.before.before.before.before.before c.before.before.place22.given.1
-
 pub quantity-spec : {M : Type 1} → statement M
 quantity-spec =
     tie.close
     (tie.spec
-    (λ c. search rules) (λ c κs. search rules) (λ c κs. search rules) (λ c. search rules) (λ c κs. search rules) (λ c κs. search rules) (λ c. search rules) (λ c κs. search rules) (λ c. search rules) record-word-requires (λ c. search rules) sub-record-word (λ c. search rules) record-word-requires-2 (λ c. search rules) row-word-requires (λ c. search rules) row-word-requires-2 (λ c. search rules) add-row-word row-word-requires-3 (λ c. search rules) is-enabled-requires (λ c. search rules) add-row-word-2 row-word-requires-4 (λ c. search rules) row-word-requires-5 (λ c. search rules) row-word-requires-6 (λ c. search rules) row-word-requires-7 (λ c. search rules) row-word-requires-8 (λ c. search rules) page-word-requires (λ c. search rules) (λ c κs. search rules) (λ c. search rules) row-word-requires-9 (λ c. search rules) row-word-requires-10 (λ c. search rules) row-word-requires-11 (λ c. search rules) (λ c κs. search rules) (λ c. search rules) row-word-requires-12 (λ c. search rules) row-word-requires-13 returns returns-2 returns-3 returns-4 returns-5 returns-6 returns-7 returns-8 returns-9 returns-10 returns-11 returns-12 returns-13 returns-14 returns-15 returns-16 returns-17 returns-18 returns-19 returns-20 returns-21 returns-22)
+    (λ c. search rules) (λ c κs. search rules) (λ c κs. search rules) (λ c. search rules) (λ c κs. search rules) (λ c κs. search rules) (λ c. search rules) (λ c κs. search rules) (λ c. search rules) record-word-requires (λ c. search rules) sub-record-word (λ c. search rules) record-word-requires-2 (λ c. search rules) row-word-requires (λ c. search rules) row-word-requires-2 (λ c. search rules) add-row-word row-word-requires-3 (λ c. search rules) is-enabled-requires (λ c. search rules) add-row-word-2 row-word-requires-4 (λ c. search rules) row-word-requires-5 (λ c. search rules) row-word-requires-6 (λ c. search rules) row-word-requires-7 (λ c. search rules) row-word-requires-8 (λ c. search rules) page-word-requires (λ c. search rules) (λ c κs. search rules) (λ c. search rules) row-word-requires-9 (λ c. search rules) row-word-requires-10 (λ c. search rules) row-word-requires-11 returns returns-2 returns-3 returns-4 returns-5 returns-6 returns-7 returns-8 returns-9 returns-10 returns-11 returns-12 returns-13 returns-14 returns-15 returns-16 returns-17 returns-18 returns-19)
