@@ -1,5 +1,7 @@
 // The accesses to a page: read, write, fetch (01, "Events" and "Memory"). An intercept enters its receiver; a write that is done stores
 // its word; all else changes nothing.
+#![tactic(auto)]
+
 ghost use Rattle.std.specs.Prelude.{◌≡◌, ℕ, get_or};
 ghost use Rattle.model.specs.State.{State, active_of};
 ghost use Rattle.model.specs.Step.{acted};
@@ -19,7 +21,7 @@ use processor::record::{Record, active_of, enabled_set};
 pub mod mbec; // whose MBEC counts
 
 // What a level asks for: a kind of access to a page, in a mode. A write has the value that it stores beside it.
-#[derive(Drop)]
+#[derive(Clone, Copy)]
 pub struct Request {
     pub mode: Mode,
     pub page: Page,

@@ -1,5 +1,7 @@
 // The access that a line asks for: `read`, `write` and `fetch` are accesses (01, "Events"). Whoever explains an access asks here which
 // it is (02, request 3). Every function takes any arguments.
+#![tactic(auto)]
+
 ghost use Rattle.std.specs.Prelude.{◌≡◌};
 ghost use Rattle.asked.specs.AskedAccess.{asked_by, asked_of};
 
@@ -8,7 +10,7 @@ use model::quantity::{Access, Page, Processor};
 use script::Parsed;
 
 // The access that a line asks for, if it does.
-#[derive(Drop)]
+#[derive(Clone, Copy)]
 pub enum Asked {
     Access {
         vp: Processor,

@@ -1,6 +1,7 @@
 // The bench: reads a script from standard input and writes its listing to standard output. Given the names of files, it writes the
 // listing of each, from two files on under the file's name; the name - stands for standard input. `main` has no contract: it returns
 // nothing, and what the arguments and the files hold is open.
+#![tactic(auto)]
 
 fn main() {
     let count = os::arg_count();

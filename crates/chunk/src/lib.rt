@@ -1,4 +1,6 @@
 // Lines in a chunk: where one ends, and the beginning of one that goes on in the next chunk.
+#![tactic(auto)]
+
 ghost use Rattle.std.specs.Prelude.{◌++◌, ◌≡◌, min};
 ghost use lib.ListN.{take};
 ghost use Rattle.script.specs.First.{line_first};

@@ -1,11 +1,13 @@
 // Decimal numbers as text: a field of bytes read as a number, and a number written into a buffer that the caller lends.
 // Numbers are decimal, 0 to 2^64-1, no leading zeros. Every function takes any arguments.
+#![tactic(auto)]
+
 ghost use Rattle.std.specs.Prelude.{◌≡◌, length};
 ghost use Rattle.decimal.specs.Read.{digit_of, extended, read_decimal};
 ghost use Rattle.decimal.specs.Write.{after_text, decimal, with_text};
 
 // What a field says as a number.
-#[derive(Drop)]
+#[derive(Clone, Copy)]
 pub enum Number {
     Value(u64),
     Malformed,

@@ -1,5 +1,7 @@
 // What moves a processor from level to level (01, "Events"): entry, VTL call, VTL return and an interrupt. The record is lent and
 // changed in place, and each contract is an equation with the definition of crate `model` that states the rule.
+#![tactic(auto)]
+
 ghost use Rattle.std.specs.Prelude.{◌≡◌, not, ◌&&◌, if◌then◌else◌, ◌==◌, nat_eq, nat_lt};
 ghost use Rattle.model.specs.Entry.{by_call, enter, highest_ready, next_up, advanced, left};
 ghost use Rattle.model.specs.Entry.{waiting, reentered, returned, interrupted};

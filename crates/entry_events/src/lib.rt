@@ -1,6 +1,8 @@
 // The events that move a processor from level to level, start a level on it, or take a vector: call, ret, envp, int, ack (01, "Events").
 // Each is given the processor's record, tests the conditions of its rule one after the other and leaves with the first that holds;
 // only then the record changes.
+#![tactic(auto)]
+
 ghost use Rattle.std.specs.Prelude.{◌≡◌, List, ℕ};
 ghost use Rattle.model.specs.declared.event.Action.TheVariants.{Envp, Call, Ret, Ack};
 ghost use Rattle.model.specs.declared.event.Event.TheVariants.{Int};
@@ -75,7 +77,7 @@ pub fn ret(shape: Shape, vp: &mut Record, mode: Mode, length: u64) -> Answer
 }
 
 // The level that envp starts, and whether it is enabled on another processor than the one whose record is lent. (That one may count too.)
-#[derive(Drop)]
+#[derive(Clone, Copy)]
 pub struct Target {
     pub level: Level,
     pub elsewhere: bool,

@@ -3,6 +3,8 @@
 // the names of files, it writes the sheet of each, from two files on under the file's name; the name - stands for standard input. `explain`
 // and `main` have no contract: they return nothing, and what the arguments and the files hold is open. `inquiry::explain` and
 // `write_explained` say what becomes of it.
+#![tactic(auto)]
+
 ghost use Rattle.std.specs.Prelude.{◌≡◌, length};
 ghost use Rattle.inquiry.specs.Inquiry.{explained};
 

@@ -1,5 +1,7 @@
 // Why an access is allowed or denied (02, request 3). The code shares with the access itself who denies, which bit is wanted, whose
 // MBEC counts and who receives the intercept. It reads the parts of a machine, which are lent, and changes nothing.
+#![tactic(auto)]
+
 ghost use Rattle.std.specs.Prelude.{◌≡◌, List, ℕ, ◌^◌};
 ghost use Rattle.word.specs.Field.{bit};
 ghost use Rattle.model.specs.Bounded.{bits};
@@ -24,21 +26,21 @@ use processor::record::{RECORD_WORDS, Record, active_of, enabled_set};
 
 // How a level stands to an access: it does not deny it; or it does, and then its mask of the page, the bit of a mask that the access wants of
 // it, as a number (1, 2, 4 or 8), and whether MBEC counted.
-#[derive(Drop)]
+#[derive(Clone, Copy)]
 pub enum Denial {
     Absent,
     By { mask: u64, wanted: u64, mbec: bool },
 }
 
 // Who receives the intercept of an access that levels deny: the lowest of them that is enabled on the processor, or nobody.
-#[derive(Drop)]
+#[derive(Clone, Copy)]
 pub enum Receiver {
     Nobody,
     By(Level),
 }
 
 // Why an access is allowed or denied. The host is named only where no level denies. The three denials are those of levels 1, 2 and 3.
-#[derive(Drop)]
+#[derive(Clone, Copy)]
 pub enum Explanation {
     Allowed,
     Host,

@@ -1,5 +1,7 @@
 // Why an access is allowed or denied (02, request 3): an input holds the records of a machine, an access line, and perhaps a sheet that was
 // filled in by hand. What is written is the sheet of the access, or the verdict on the sheet that follows.
+#![tactic(auto)]
+
 ghost use Rattle.std.specs.Prelude.{◌≡◌, ◌≤◌, drop, length};
 ghost use Rattle.std.proofs.lemmas.List.Edits.{sets};
 ghost use Rattle.asked.specs.AskedAccess.{asked_by};

@@ -1,5 +1,7 @@
 // The events that change what the partition holds of a level: enpart, protect, config (01, "Events"). Each tests the conditions of its
 // rule one after the other and leaves with the first that holds; only then the lent words change.
+#![tactic(auto)]
+
 ghost use Rattle.std.specs.Prelude.{◌≡◌, cond, not, ◌&&◌, List, ℕ};
 ghost use Rattle.model.specs.declared.event.Action.TheVariants.{Enpart, Protect, Config};
 ghost use Rattle.model.specs.Masks.{turns_on, default_mask, protects_in};

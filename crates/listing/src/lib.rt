@@ -1,5 +1,7 @@
 // What an event is answered, as the listing shows it (01, "Script and listing"): the processor that the level column is about, and the
 // numbers of an answer. Every function takes any arguments.
+#![tactic(auto)]
+
 ghost use Rattle.std.specs.Prelude.{◌≡◌};
 ghost use Rattle.model.specs.Answers.{refusal_number};
 ghost use Rattle.model.specs.LevelColumn.{processor_of};
@@ -75,7 +77,7 @@ pub fn refusal_number(refusal: Refusal) -> u64
 }
 
 // What the listing shows of an answer: its number, its value, and a level.
-#[derive(Drop)]
+#[derive(Clone, Copy)]
 pub struct Shown {
     pub answer: u64,
     pub value: u64,

@@ -1,5 +1,7 @@
 // Lockstep: a machine in words that the caller owns, opened by a first line, and one event line at a time on it (01, "Script and listing").
 // So other code can run beside the model event by event. Every public function takes any arguments.
+#![tactic(auto)]
+
 ghost use Rattle.std.specs.Prelude.{true, ◌≡◌, ◌≤◌, length};
 ghost use Rattle.std.proofs.lemmas.List.Edits.{sets};
 ghost use Rattle.lockstep.specs.Lockstep.{opened, shown_after, shown_by, shown_words};
@@ -35,7 +37,7 @@ const LEVEL: usize = 1;
 const REASON: usize = 2;
 
 // What a line is answered: number, value and level as the listing shows them, and the number of the reason.
-#[derive(Drop)]
+#[derive(Clone, Copy)]
 pub(crate) struct Reply {
     pub answer: u64,
     pub value: u64,

@@ -3,7 +3,7 @@
 // is refused by the event's rule.
 use crate::quantity::{Level, Page, Processor};
 
-#[derive(Drop)]
+#[derive(Clone, Copy)]
 pub enum Event {
     Made {
         vp: Processor,
@@ -18,7 +18,7 @@ pub enum Event {
     },
 }
 
-#[derive(Drop)]
+#[derive(Clone, Copy)]
 pub enum Action {
     Enpart {
         target: Level,

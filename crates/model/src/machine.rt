@@ -5,7 +5,7 @@ use crate::quantity::Level;
 use crate::set::LevelSet;
 
 // The first line of a script: what a fresh machine is made from.
-#[derive(Drop)]
+#[derive(Clone, Copy)]
 pub struct FirstLine {
     pub processors: u64,
     pub max_level: Level,
@@ -18,7 +18,7 @@ pub struct FirstLine {
 
 // What a processor's record is read by: the maximum level, whether DR6 is shared by the levels, and whether SMEP is available to
 // the guest.
-#[derive(Drop)]
+#[derive(Clone, Copy)]
 pub struct Shape {
     pub max_level: Level,
     pub dr6_shared: bool,
@@ -26,7 +26,7 @@ pub struct Shape {
 }
 
 // What stays the same in a run.
-#[derive(Drop)]
+#[derive(Clone, Copy)]
 pub struct Setup {
     pub processors: u64,
     pub pages: u64,
@@ -40,7 +40,7 @@ pub const BY_CALL: u64 = 1;
 pub const BY_INTERRUPT: u64 = 2;
 
 // The control record of a level above 0: why it was entered, from which level, and RAX and RCX at that time.
-#[derive(Drop)]
+#[derive(Clone, Copy)]
 pub struct Control {
     pub reason: u64,
     pub from: Level,
@@ -50,7 +50,7 @@ pub struct Control {
 
 // What a level above 0 asks to be told of the registers of lower levels (02, request 6): 001's intercept control word, and its masks for
 // writes of CR0 and of CR4.
-#[derive(Drop)]
+#[derive(Clone, Copy)]
 pub struct Watch {
     pub intercepts: u64,
     pub cr0_mask: u64,
@@ -58,7 +58,7 @@ pub struct Watch {
 }
 
 // What a processor holds of one level.
-#[derive(Drop)]
+#[derive(Clone, Copy)]
 pub struct Context {
     // Registers 0 to 12. The last, DR6, is in use only where it is not shared.
     pub registers: [u64; 13],
@@ -71,7 +71,7 @@ pub struct Context {
     pub watch: Watch,
 }
 
-#[derive(Drop)]
+#[derive(Clone, Copy)]
 pub struct VirtualProcessor {
     pub active: Level,
     // The levels that are enabled on the processor.
@@ -82,7 +82,7 @@ pub struct VirtualProcessor {
 }
 
 // What the partition holds of its levels.
-#[derive(Drop)]
+#[derive(Clone, Copy)]
 pub struct Partition {
     // The levels that are enabled for the partition, and those that it has MBEC for.
     pub enabled: LevelSet,
@@ -93,7 +93,7 @@ pub struct Partition {
     pub masks: [u64; 256],
 }
 
-#[derive(Drop)]
+#[derive(Clone, Copy)]
 pub struct Machine {
     pub processors: u64,
     pub pages: u64,

@@ -5,15 +5,15 @@ ghost use Rattle.model.specs.Memory.{is_user};
 ghost use Rattle.model.specs.Step.{mode_of};
 
 // A virtual trust level. Level 0 is the least privileged.
-#[derive(Drop)]
+#[derive(Clone, Copy)]
 pub struct Level(pub u64);
 
 // The index of a virtual processor.
-#[derive(Drop)]
+#[derive(Clone, Copy)]
 pub struct Processor(pub u64);
 
 // The number of a page of guest memory.
-#[derive(Drop)]
+#[derive(Clone, Copy)]
 pub struct Page(pub u64);
 
 // What 01 takes for a field: levels and TPR classes up to 15, instructions of 1 to 15 bytes, vectors from 16 to 255.
@@ -31,7 +31,7 @@ pub const LAST_VECTOR: u64 = 255;
 pub const NO_LEVEL: u64 = 4;
 
 // The mode in which a level acts.
-#[derive(Drop)]
+#[derive(Clone, Copy)]
 pub enum Mode {
     Kernel,
     User,
@@ -59,7 +59,7 @@ pub fn is_user(mode: Mode) -> bool
 }
 
 // The kinds of access to a page.
-#[derive(Drop)]
+#[derive(Clone, Copy)]
 pub enum Access {
     Read,
     Write,

@@ -9,7 +9,7 @@ use crate::machine::Shape;
 use crate::quantity::Level;
 use word::field::{has_bit, take};
 
-#[derive(Drop)]
+#[derive(Clone, Copy)]
 pub struct LevelSet(pub u64);
 
 // What a level that is in a set, or is not, adds to the number.

@@ -1,7 +1,7 @@
 // A row of the table that ties each named bit of the intercept control word to a register (02, request 6).
 use word::field::FieldPosition;
 
-#[derive(Drop)]
+#[derive(Clone, Copy)]
 pub struct WatchedAccess {
     // The bit, and the register that it watches: NOT_MODELLED where we have no such register.
     pub position: FieldPosition,

@@ -14,7 +14,7 @@ use model::set::{LevelSet, in_set, level_set};
 use word::field::has_bit;
 
 // An access that a level attempts.
-#[derive(Drop)]
+#[derive(Clone, Copy)]
 pub struct Attempt {
     pub actor: Level,
     pub mode: Mode,

@@ -1,4 +1,6 @@
 // A machine that is passed on (02, request 2): a session saved as the records of its state, and resumed from them.
+#![tactic(auto)]
+
 ghost use Rattle.std.specs.Prelude.{[], ◌≡◌, ◌≤◌, length};
 ghost use Rattle.std.proofs.lemmas.List.Edits.{sets};
 ghost use Rattle.passing.specs.PassingSessions.{line_zero, opened, saved_text};

@@ -14,7 +14,7 @@ use model::register;
 use model::set::is_level;
 
 // Where a level starts: what envp gives of 001's HV_INITIAL_VP_CONTEXT.
-#[derive(Drop)]
+#[derive(Clone, Copy)]
 pub struct InitialContext {
     pub rip: u64,
     pub rsp: u64,

@@ -2,6 +2,8 @@
 // change a processor (01, "The bench model" and "Events"). Each function has the meaning of the definition that its contract
 // names and asks nothing of its caller: a level, a register or a vector is any number. Beyond the maximum level M nothing is
 // read and nothing is stored.
+#![tactic(auto)]
+
 pub mod record; // the words of a record
 pub mod record_registers; // private and shared registers
 pub mod interrupt; // vectors, pending and ready

@@ -1,4 +1,6 @@
 // A machine read from its records (02, request 2). A script without first line may follow them.
+#![tactic(auto)]
+
 ghost use Rattle.std.specs.Prelude.{false, ◌≡◌, ◌≤◌, length};
 ghost use Rattle.records.specs.Reading.{passed_on};
 ghost use Rattle.reader.specs.Received.{Few, Placed, Used, blank_record, blank_rows, passed_in, wanted};
@@ -25,7 +27,7 @@ mod store; // a quantity stored at a place
 // What reading gives: whether the records were accepted, how many bytes they take, and the machine in its parts: what stays the same,
 // the words of the levels, the masks, the records of four processors, and the words of the pages, as many as there are. Where they were
 // not accepted there is no machine: what the other fields hold then is left open, and so are the words beyond the pages.
-#[derive(Drop)]
+#[derive(Clone, Copy)]
 pub struct Received {
     pub accepted: bool,
     pub used: usize,

@@ -13,7 +13,7 @@ use records::head::{indices_of, word_of};
 use records::place::Place;
 
 // Where the bytes behind those that a line must have begin.
-#[derive(Drop)]
+#[derive(Clone, Copy)]
 pub enum Past {
     At(usize),
     Nothing,

@@ -1,5 +1,7 @@
 // Why a line got its answer: the name of the condition that gave it, or, for a denied access, why it is denied (demand 1 of 01; 02, request
 // 3). Every public function takes any arguments.
+#![tactic(auto)]
+
 ghost use Rattle.std.specs.Prelude.{List, ◌≡◌, ℕ};
 ghost use Rattle.reason.specs.Reasons.{cause_of, denied_by, reason_for};
 ghost use Rattle.state.specs.Lent.{lent};
@@ -29,14 +31,14 @@ const NO_RECEIVER: u64 = 10;
 const HOST_DENIES: u64 = 11;
 
 // Why the access that a line asks for is allowed or denied, if the line asks for one.
-#[derive(Drop)]
+#[derive(Clone, Copy)]
 pub enum Cause {
     Nothing,
     Access(Explanation),
 }
 
 // Why a line got its answer.
-#[derive(Drop)]
+#[derive(Clone, Copy)]
 pub enum Reason {
     // it is done
     Nothing,

@@ -7,7 +7,7 @@ ghost use Rattle.script.specs.ListingLine.{line_feed};
 use model::answer::Refusal;
 
 // A name after its tab and with the line feed that ends the line, in the first of 32 bytes, and how many bytes they take.
-#[derive(Drop)]
+#[derive(Clone, Copy)]
 pub struct NameText(pub [u8; 32], pub usize);
 
 // The name of a refusal.

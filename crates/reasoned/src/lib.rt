@@ -1,6 +1,8 @@
 // A script that comes in chunks, and its listing with reasons. The session is that of crate `session`, and comes as far: here each line that
 // ends is written with its reason. One call ends one line at most, so a buffer for the longest line is always room. Every public function
 // takes any arguments.
+#![tactic(auto)]
+
 ghost use Rattle.std.specs.Prelude.{◌≡◌, ◌≤◌, [], length, take};
 ghost use Rattle.std.proofs.lemmas.List.Edits.{sets};
 ghost use Rattle.chunk.specs.Chunk.{held};

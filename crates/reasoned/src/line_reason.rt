@@ -20,7 +20,7 @@ use script::Parsed;
 use state::well_formed_state::well_formed;
 
 // What the listing shows of an answer, and the reason for it.
-#[derive(Drop)]
+#[derive(Clone, Copy)]
 pub struct Told {
     pub shown: Shown,
     pub why: Reason,

@@ -11,11 +11,11 @@ const OF_CR0: u64 = 0;
 const OF_CR4: u64 = 4;
 
 // A word and its tab, in the first of eight bytes, and how many bytes they take.
-#[derive(Drop)]
+#[derive(Clone, Copy)]
 pub struct WordText(pub [u8; 8], pub usize);
 
 // At most three indices: the first `count` numbers.
-#[derive(Drop)]
+#[derive(Clone, Copy)]
 pub struct Indices {
     pub numbers: [u64; 3],
     pub count: usize,

@@ -2,7 +2,7 @@
 // variant, and the record's indices in their order.
 use model::quantity::{Level, Page, Processor};
 
-#[derive(Drop)]
+#[derive(Clone, Copy)]
 pub enum Place {
     // `enabled` of a level above 0: is it enabled for the partition?
     PartitionEnabled(Level),
@@ -41,14 +41,14 @@ pub enum Place {
 }
 
 // The place whose record is due next, if there is one.
-#[derive(Drop)]
+#[derive(Clone, Copy)]
 pub enum Next {
     At(Place),
     Done,
 }
 
 // A level from 1 of a processor, if there is one.
-#[derive(Drop)]
+#[derive(Clone, Copy)]
 pub enum Upper {
     On(Processor, Level),
     Nowhere,

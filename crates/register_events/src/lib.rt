@@ -2,6 +2,8 @@
 // Each is given the processor's record, tests the conditions of its rule one after the other and leaves with the first that holds;
 // only then the record changes. The last condition of rreg and wreg, 9, is that a level watches the register (02, request 6): that level
 // is entered, reason 2, and the register keeps its value.
+#![tactic(auto)]
+
 ghost use Rattle.std.specs.Prelude.{◌≡◌, List, ℕ};
 ghost use Rattle.model.specs.declared.answer.Answer.TheVariants.{Intercept};
 ghost use Rattle.model.specs.declared.event.Action.TheVariants.{Secure, Rreg, Wreg, Tpr};

@@ -3,6 +3,8 @@
 // writes the listing of each, from two files on under the file's name; the name - stands for standard input. `resume` and `main` have no
 // contract: they return nothing, and what the arguments and the files hold is open. `passing::open`, `write_line_zero` and the functions of
 // `shell` say what becomes of it.
+#![tactic(auto)]
+
 ghost use Rattle.std.specs.Prelude.{◌≡◌};
 ghost use Rattle.passing.specs.PassingSessions.{opened};
 

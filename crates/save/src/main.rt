@@ -2,6 +2,8 @@
 // listing. A bad first line, or an empty input, gives the refusal line. Given the names of files, it writes the records of each, from two
 // files on under the file's name; the name - stands for standard input. `save` and `main` have no contract: they return nothing, and what
 // the arguments and the files hold is open. `passing::consume` and `write_saved` say what becomes of it.
+#![tactic(auto)]
+
 ghost use Rattle.std.specs.Prelude.{◌≡◌};
 ghost use Rattle.passing.specs.PassingSessions.{saved_text};
 ghost use Rattle.session.specs.Session.{last_ended, progress_of};

@@ -1,5 +1,7 @@
 // The lines of a script (01, "Script and listing"): a line as an event, and the first line as what a machine is made from. Every
 // function takes any arguments.
+#![tactic(auto)]
+
 ghost use Rattle.std.specs.Prelude.{◌≡◌, eqb, length};
 ghost use Rattle.script.specs.EventForms.{line_event};
 ghost use Rattle.script.specs.First.{first_form, line_first};
@@ -17,14 +19,14 @@ pub mod search; // the search for a byte
 mod words; // the event words
 
 // What a later line says, or why it says nothing.
-#[derive(Drop)]
+#[derive(Clone, Copy)]
 pub enum Parsed {
     Event(Event),
     Malformed(Refusal),
 }
 
 // What the first line says, or why it says nothing.
-#[derive(Drop)]
+#[derive(Clone, Copy)]
 pub enum Start {
     First(FirstLine),
     Malformed(Refusal),

@@ -5,7 +5,7 @@ ghost use Rattle.script.specs.EventWords.{named_among, words, words_with_c};
 ghost use Rattle.script.specs.declared.words.Named.TheVariants.{As};
 
 // The words of the events that a level makes.
-#[derive(Drop)]
+#[derive(Clone, Copy)]
 pub enum ActionWord {
     Enpart,
     Envp,
@@ -30,14 +30,14 @@ pub enum ActionWord {
 }
 
 // The twenty-one event words: `int` comes from outside.
-#[derive(Drop)]
+#[derive(Clone, Copy)]
 pub enum Word {
     Made(ActionWord),
     Interrupt,
 }
 
 // The event word that a line begins with, where it ends, and how many numbers its event takes.
-#[derive(Drop)]
+#[derive(Clone, Copy)]
 pub enum Named {
     As {
         word: Word,

@@ -1,5 +1,7 @@
 // A script that comes in chunks, and its listing (01, "Script and listing"). A caller makes a session, feeds it the script's
 // chunks in order, and finishes it; what is written on the way is the listing of the whole. Every function takes any arguments.
+#![tactic(auto)]
+
 ghost use Rattle.std.specs.Prelude.{◌≡◌, min, [], ◌∷◌, length};
 ghost use Rattle.std.proofs.lemmas.List.Edits.{sets};
 ghost use Rattle.session.specs.Session.{Bounds, fed, first, is_stopped, last_ended, last_text, later, lent_of};
@@ -21,7 +23,7 @@ pub use lines::{after_line, keep};
 pub const LONGEST_RECORD: usize = 84;
 
 // How far a session has come.
-#[derive(Drop)]
+#[derive(Clone, Copy)]
 pub enum Phase {
     First,
     Later,
@@ -30,7 +32,7 @@ pub enum Phase {
 
 // What is kept from chunk to chunk. Any values make a session. What the buffer holds beyond the line, and the words beyond those lent, are no part of it: no
 // contract speaks of them.
-#[derive(Drop)]
+#[derive(Clone, Copy)]
 pub struct Session {
     pub phase: Phase,
     // The number of the line that comes next.
@@ -52,7 +54,7 @@ pub struct Session {
 }
 
 // The session after a chunk, how much of the chunk was used, and how much was written.
-#[derive(Drop)]
+#[derive(Clone, Copy)]
 pub struct Fed {
     pub session: Session,
     pub used: usize,
@@ -60,7 +62,7 @@ pub struct Fed {
 }
 
 // The session after a line, and how many bytes its record has.
-#[derive(Drop)]
+#[derive(Clone, Copy)]
 pub struct Written {
     pub session: Session,
     pub wrote: usize,

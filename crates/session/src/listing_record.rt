@@ -12,14 +12,14 @@ ghost use Rattle.session.specs.LineNumbers.{Ahead, Numbered, Packed, packed};
 use listing::Shown;
 
 // The digits of a number in a word, the first in the lowest byte.
-#[derive(Drop)]
+#[derive(Clone, Copy)]
 struct Digits {
     word: u64,
     width: usize,
 }
 
 // A line number, the digits before its last where they are at most eight, and the last.
-#[derive(Drop)]
+#[derive(Clone, Copy)]
 pub struct LineNumber {
     pub number: u64,
     front: u64,

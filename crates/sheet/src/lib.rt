@@ -1,5 +1,7 @@
 // The sheet that says why an access is allowed or denied (02, request 3): the line of an explanation, and what is written of a sheet
 // that was filled in by hand. Every public function takes any arguments.
+#![tactic(auto)]
+
 ghost use Rattle.std.specs.Prelude.{[], ◌∷◌, ◌≡◌, ◌≤◌, length};
 ghost use Rattle.std.proofs.lemmas.List.Edits.{sets};
 ghost use Rattle.decimal.specs.Write.{after_text, with_text};

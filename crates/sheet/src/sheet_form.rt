@@ -9,7 +9,7 @@ use decimal::Number;
 use script::search::find_byte;
 
 // Where fields end that are as they should be.
-#[derive(Drop)]
+#[derive(Clone, Copy)]
 pub enum Passed {
     To(usize),
     Nothing,

@@ -9,7 +9,7 @@ use session::{LONGEST_RECORD, Session};
 const FEWEST_TABS: usize = 5;
 
 // What is wrong with a first line: the first of these that applies.
-#[derive(Drop)]
+#[derive(Clone, Copy)]
 enum Fault {
     Spaces,
     Return,

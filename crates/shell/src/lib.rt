@@ -1,6 +1,8 @@
 // What the programs share: input from a descriptor or from a file that is named, and a listing to standard output, over the proved session.
 // The contracts say what is fed and which bytes are handed to the C library to be written. Which bytes it moves, and what it answers, no
 // contract can say.
+#![tactic(auto)]
+
 ghost use Rattle.std.specs.Prelude.{not, ◌&&◌, ◌≡◌, ◌≤◌, eqb, length, take};
 ghost use Rattle.session.specs.Session.{consumed, fed, is_stopped, last_text, progress_of};
 ghost use Rattle.shell.specs.Names.{Within, is_input};
@@ -76,7 +78,7 @@ pub fn close_named(descriptor: i32) {
 }
 
 // What a read gives: the number of bytes now at the start of the buffer, 0 at the end of the input; or the read failed.
-#[derive(Drop)]
+#[derive(Clone, Copy)]
 pub enum Input {
     Bytes(usize),
     Failed,
@@ -126,7 +128,7 @@ fn write_name(name: &[u8]) -> bool {
 }
 
 // A session, and how many bytes of a chunk it has used.
-#[derive(Drop)]
+#[derive(Clone, Copy)]
 pub struct Turned {
     pub session: Session,
     pub used: usize,

@@ -1,4 +1,6 @@
 // The events that only answer: flush, pstat, vstat, caps (01, "Events"). The status words are packed through the structures of 001.
+#![tactic(auto)]
+
 ghost use Rattle.std.specs.Prelude.{◌≡◌, true, ◌&&◌, List, ℕ, ltb};
 ghost use Rattle.model.specs.Bounded.{bits};
 ghost use Rattle.model.specs.declared.event.Action.TheVariants.{Flush, Pstat, Vstat, Caps};

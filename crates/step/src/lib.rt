@@ -1,5 +1,7 @@
 // One event on a whole machine (01, "Events"). What the machine holds of levels, pages and processors is lent and changed in place,
 // as the words of the pages are: no event copies more than it changes. `lent` of crate `state` says which state the parts are.
+#![tactic(auto)]
+
 ghost use Rattle.std.specs.Prelude.{true, cond, List, ◌≡◌, ℕ, ◌≤◌, length};
 ghost use Rattle.word.specs.Field.{bit};
 ghost use Rattle.model.specs.Bounded.{any};
@@ -28,7 +30,7 @@ use state::well_formed_state::well_formed;
 use watch::{cri, crm};
 
 // What a level does: the processor on which it is active, the mode, and the action.
-#[derive(Drop)]
+#[derive(Clone, Copy)]
 struct Operation {
     vp: Processor,
     mode: Mode,

@@ -17,7 +17,7 @@ use processor::record_registers::register_of;
 use processor::watch::watch_of;
 
 // An access to a register: a read, or a write of a new value in the place of the old.
-#[derive(Drop)]
+#[derive(Clone, Copy)]
 pub enum RegisterAccess {
     Read { register: u64 },
     Write { register: u64, old: u64, new: u64 },

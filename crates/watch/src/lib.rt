@@ -1,6 +1,8 @@
 // Which accesses to its registers a level's higher levels are told of (02, request 6): here the events cri and crm, by which a level says what
 // it asks for. Each is given the processor's record, tests the conditions of its rule one after the other and leaves with the first that
 // holds; only then the record changes.
+#![tactic(auto)]
+
 ghost use Rattle.std.specs.Prelude.{◌≡◌, ℕ};
 ghost use Rattle.model.specs.declared.event.Action.TheVariants.{Cri, Crm};
 ghost use Rattle.model.specs.State.{State};

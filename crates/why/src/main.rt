@@ -2,6 +2,8 @@
 // writes the listing of each, from two files on under the file's name; the name - stands for standard input. `run` and `main` have no
 // contract: they return nothing, and what the arguments and the files hold is open. `turn`, `close` and the functions of `shell` say what
 // becomes of it.
+#![tactic(auto)]
+
 ghost use Rattle.std.specs.Prelude.{◌≡◌, ◌≤◌, length, take};
 ghost use Rattle.reasoned.specs.ReasonedSession.{last_told, told};
 ghost use Rattle.session.specs.Session.{consumed, progress_of};

@@ -39,7 +39,7 @@ pub fn has_bit(word: u64, index: u32) -> bool
 }
 
 // Where a field stands in its word: its offset, and its width in bits.
-#[derive(Drop)]
+#[derive(Clone, Copy)]
 pub struct FieldPosition(pub u32, pub u32);
 
 impl FieldPosition {

@@ -9,7 +9,7 @@ use crate::field::{FieldPosition, put, take};
 // How many fields there are.
 pub const INTERCEPTS: usize = 25;
 
-#[derive(Drop)]
+#[derive(Clone, Copy)]
 pub struct InterceptControl {
     pub values: [u64; INTERCEPTS],
 }

@@ -12,7 +12,7 @@ use crate::field::FieldPosition;
 use crate::intercept_control::InterceptControl;
 
 // What the hypervisor offers: HV_X64_REGISTER_VSM_CAPABILITIES.
-#[derive(Drop)]
+#[derive(Clone, Copy)]
 pub struct Capabilities {
     pub deny_lower_vtl_startup: u64,
     pub mbec_vtl_mask: u64,
@@ -46,7 +46,7 @@ impl Capabilities {
 }
 
 // What a partition has enabled: HV_REGISTER_VSM_PARTITION_STATUS.
-#[derive(Drop)]
+#[derive(Clone, Copy)]
 pub struct PartitionStatus {
     pub enabled_vtl_set: u64,
     pub maximum_vtl: u64,
@@ -80,7 +80,7 @@ impl PartitionStatus {
 }
 
 // What a virtual processor has active and enabled: HV_REGISTER_VSM_VP_STATUS.
-#[derive(Drop)]
+#[derive(Clone, Copy)]
 pub struct VpStatus {
     pub active_vtl: u64,
     pub active_mbec_enabled: u64,
@@ -114,7 +114,7 @@ impl VpStatus {
 }
 
 // How a level has set up its partition: HV_REGISTER_VSM_PARTITION_CONFIG.
-#[derive(Drop)]
+#[derive(Clone, Copy)]
 pub struct PartitionConfig {
     pub enable_vtl_protection: u64,
     pub default_vtl_protection_mask: u64,
@@ -158,7 +158,7 @@ impl PartitionConfig {
 }
 
 // How a level has set up a lower one on a virtual processor: HV_REGISTER_VSM_VP_SECURE_VTL_CONFIG.
-#[derive(Drop)]
+#[derive(Clone, Copy)]
 pub struct SecureConfig {
     pub mbec_enabled: u64,
     pub tlb_locked: u64,
@@ -187,7 +187,7 @@ impl SecureConfig {
 }
 
 // Where the call and return sequences stand in the hypercall page: HV_REGISTER_VSM_CODE_PAGE_OFFSETS.
-#[derive(Drop)]
+#[derive(Clone, Copy)]
 pub struct CodePageOffsets {
     pub vtl_call_offset: u64,
     pub vtl_return_offset: u64,

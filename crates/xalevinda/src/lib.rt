@@ -1,5 +1,7 @@
 // The library for other programs: functions over numbers and slices, exported under the names of C. Each takes any arguments, calls
 // nothing of the system and allocates nothing. include/xalevinda.h declares them for C and C++, examples/rust/xalevinda.rs for Rust.
+#![tactic(auto)]
+
 ghost use Rattle.std.specs.Prelude.{◌≡◌};
 ghost use Rattle.decimal.specs.Write.{with_text};
 ghost use Rattle.inquiry.specs.Inquiry.{explained};

@@ -12,7 +12,7 @@ use session::{LONGEST_RECORD, Session};
 use transfer::write::LONGEST_TEXT;
 
 // What an input begins with: the first line of a script, or the records of a state, which a script without first line follows.
-#[derive(Drop)]
+#[derive(Clone, Copy)]
 pub(crate) enum Begins {
     FirstLine,
     Records,
