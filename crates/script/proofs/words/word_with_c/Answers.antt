@@ -3,7 +3,6 @@
 use mathlib.Core.List.{List, [], ◌∷◌, map}
 use mathlib.Core.Path.{◌≡◌, sym}
 use Prim.Native.Nat.{ℕ, ◌<◌}
-use borrow.Author.Rules.{rules}
 use native.Mathlib.Omega.{arith}
 use lib.ListN.{get_or, length}
 use Rattle.script.specs.Bytes.{bytes}
@@ -12,8 +11,7 @@ use Rattle.script.specs.declared.words.ActionWord.TheVariants.{Call, Config, Cap
 use Rattle.script.specs.declared.words.Named.TheVariants.{Nothing}
 use Rattle.script.specs.declared.words.Word.TheVariants.{Made}
 use Rattle.script.proofs.Naming.{other_at, too_short}
-use Rattle.script.proofs.words.word_with_c.Statement.{statement}
-use Rattle.script.proofs.words.word_with_c.Tie as tie
+use Rattle.script.proofs.words.word_with_c.Goals as goal
 
 module _ (line : List ℕ) where
   none-short : length line < 2 → Nothing ≡ named_among words_with_c line
@@ -37,19 +35,11 @@ module _ (line : List ℕ) where
   without-r : (get_or line 1 0 ≡ 114 → ⊥) → named_among (map Made (Call ∷ Config ∷ Caps ∷ [])) line ≡ named_among words_with_c line
   without-r h = rw (other_at line (bytes "cri") 1 (omega arith) (λ e. h (sym e)), other_at line (bytes "crm") 1 (omega arith) (λ e. h (sym e)))
 
-returns : tie.Need-returns
-returns c = none-short _ c.if1.true
+pub returns-then-line-lt2 : goal.returns-then-line-lt2
+returns-then-line-lt2 c = none-short _ c.if-line-lt2.true
 
-returns-2 : tie.Need-returns-2
-returns-2 c = rw (c.pick2.ensures, c.before.before.pick.ensures) (with-r _ (omega arith))
+pub returns-then-line-eq114 : goal.returns-then-line-eq114
+returns-then-line-eq114 c = rw (c.pick.ensures, c.pick-crm.ensures) (with-r _ (omega arith))
 
-returns-3 : tie.Need-returns-3
-returns-3 c = rw (c.pick5.ensures, c.before.before.pick4.ensures, c.before.before.before.before.pick3.ensures) (without-r _ (omega arith))
-
-pub word-with-c-spec : {M : Type 1} → statement M
-word-with-c-spec =
-    tie.close
-    (tie.spec
-    returns (λ c. search rules) (λ c. search rules) (λ c κs. search rules) (λ c. search rules) (λ c κs. search rules) returns-2
-    (λ c. search rules) (λ c κs. search rules) (λ c. search rules) (λ c κs. search rules) (λ c. search rules) (λ c κs. search rules)
-    returns-3)
+pub returns : goal.returns
+returns c = rw (c.pick-2.ensures, c.pick-config.ensures, c.pick-caps.ensures) (without-r _ (omega arith))
