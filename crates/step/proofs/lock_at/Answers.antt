@@ -12,8 +12,7 @@ use Rattle.model.specs.State.{no_vp, no_context, past_context, is_level, context
 use Rattle.model.specs.declared.machine.Shape.{Shape}
 use Rattle.model.specs.declared.machine.VirtualProcessor.{VirtualProcessor}
 use Rattle.processor.specs.Record.{vp_of}
-use Rattle.step.proofs.lock_at.Statement.{statement}
-use Rattle.step.proofs.lock_at.Tie as tie
+use Rattle.step.proofs.lock_at.Goals as goal
 
 abbrev holds : Shape → VirtualProcessor → ℕ → Bool
 holds z p l = any 4 (λ t. bit (secure_of z p t l) lock_bit)
@@ -38,8 +37,5 @@ known : (b : Bool) (z : Shape) (p : VirtualProcessor) (l : ℕ) → (b && holds 
 known true z p l = refl
 known false z p l = empty z l
 
-returns : tie.Need-returns
-returns c = let a = c.before.args in rw c.holds-lock.ensures (known a.there a.shape (vp_of a.vp.now) a.level.0)
-
-pub lock-at-spec : {M : Type 1} → statement M
-lock-at-spec = tie.close (tie.spec (λ c κs. tt) returns)
+pub returns : goal.returns
+returns c = let a = c.args in rw c.holds_lock-held.ensures (known a.there a.shape (vp_of a.vp.now) a.level.0)

@@ -7,16 +7,12 @@ use Rattle.model.specs.State.{no_vp, enabled_at}
 use Rattle.model.specs.declared.machine.Shape.{Shape}
 use Rattle.model.specs.declared.machine.VirtualProcessor.{VirtualProcessor}
 use Rattle.processor.specs.Record.{vp_of}
-use Rattle.step.proofs.enabled_there.Statement.{statement}
-use Rattle.step.proofs.enabled_there.Tie as tie
+use Rattle.step.proofs.enabled_there.Goals as goal
 
 known : (b : Bool) (z : Shape) (p : VirtualProcessor) (l : ℕ) → (b && enabled_at z p l) ≡ enabled_at z (cond b p no_vp) l
 unfolding enabled_at
 known true z p l = refl
 known false z p l = sym (none_in z l)
 
-returns : tie.Need-returns
-returns c = let a = c.before.args in rw c.enabled-at.ensures (known a.there a.shape (vp_of a.vp.now) a.level.0)
-
-pub enabled-there-spec : {M : Type 1} → statement M
-enabled-there-spec = tie.close (tie.spec (λ c κs. tt) returns)
+pub returns : goal.returns
+returns c = let a = c.args in rw c.enabled_at-enabled.ensures (known a.there a.shape (vp_of a.vp.now) a.level.0)
