@@ -4,7 +4,7 @@ use mathlib.Core.Bool.{Bool, true, false}
 use mathlib.Core.List.{List, [], ◌∷◌, ◌++◌}
 use mathlib.Core.Option.{Option, none, some}
 use mathlib.Core.Path.{◌≡◌, refl, ap}
-use Prim.Native.Nat.{ℕ, ◌+◌, ◌≤◌, ◌<◌}
+use Prim.Native.Nat.{ℕ, ◌≤◌, ◌<◌}
 use borrow.Author.Tests.{lt-leb, lt-ltb, ltb-false, ltb-true}
 use native.Mathlib.Omega.{arith}
 use lib.Dec.{eqb, ltb}
@@ -22,7 +22,6 @@ use Rattle.script.specs.EventForms.{line_event}
 use Rattle.script.specs.LineForms.{said}
 use Rattle.script.specs.Records.{last_line, lines, lines_in}
 use Rattle.script.specs.declared.Parsed.{Parsed}
-use Rattle.script.specs.declared.Parsed.TheVariants as parsed
 use Rattle.sheet.specs.SheetForms.{good_form}
 use Rattle.sheet.specs.Sheets.{Explanation}
 use Rattle.sheet.specs.Verdicts.{refusal, verdict, verdict_lines}

@@ -24,7 +24,6 @@ returns-then-not-received c =
 pub returns-then-input-used : goal.returns-then-input-used
 returns-then-input-used c =
     let accepted : c.read-received.result.accepted ≡ true = not-false _ c.if-not-received.false in
-   
     rw (no_access c.read-received.result c.args.input.now c.read-received.ensures.passed (accepted) c.if-input-used.true) (in_parts c.refuse-then-input-used.ensures)
 
 pub slice_bounds-access_line-end : goal.slice_bounds-access_line-end
@@ -35,20 +34,17 @@ slice_bounds-access_line-end c =
 pub returns-in_default : goal.returns-in_default
 returns-in_default c =
     let accepted : c.read-received.result.accepted ≡ true = not-false _ c.if-not-received.false in
-   
     rw (by-access c.read-received.result c.args.input.now c.read-received.ensures.passed (accepted) c.line_end-end.result c.line_end-end.ensures (omega (arith, c.if-input-used.false)), ← c.access_line.ensures, c.in_default.is)
     (in_parts c.refuse-in_default.ensures)
 
 pub overflow_add-end : goal.overflow_add-end
 overflow_add-end c =
     let ends : (c.read-received.result.used ≤ c.line_end-end.result) × (c.line_end-end.result ≤ length c.args.input.now) = rw c.line_end-end.ensures (end-within c.args.input.now c.read-received.result.used (omega (arith, c.if-input-used.false))) in
-   
     omega (arith, ends, c.well_formed)
 
 pub returns : goal.returns
 returns c =
     let accepted : c.read-received.result.accepted ≡ true = not-false _ c.if-not-received.false in
-   
     rw (by-access c.read-received.result c.args.input.now c.read-received.ensures.passed (accepted) c.line_end-end.result c.line_end-end.ensures (omega (arith, c.if-input-used.false)), ← c.access_line.ensures, c.in-Access.is, ← c.mode_of.ensures, ← c.explain_on-explanation.ensures, ← c.at_most.ensures)
     (in_parts c.write_with.ensures)
 

@@ -5,12 +5,10 @@ use mathlib.Core.Path.{sym, ap, ◌∙◌}
 use Prim.Native.Nat.{ℕ, ◌+◌, ◌-◌, ◌<◌, ◌≤◌}
 use borrow.Rule.Slice.PartMut.{mid_of}
 use native.Mathlib.Omega.{arith}
-use lib.ListN.{length, take}
+use lib.ListN.{length}
 use lib.Seq.{take_all}
 use Rattle.session.proofs.Callers.{moves, reached-fed, reached-session, reached-start}
-use Rattle.session.specs.Calls.{Reached}
-use Rattle.session.specs.Session.{Progress, consumed, fed, progress_of}
-use Rattle.passing.proofs.UsedChunks.{Used}
+use Rattle.session.specs.Session.{consumed, fed, progress_of}
 use Rattle.passing.proofs.consume.Goals as goal
 
 pub loop-from-init : goal.loop-from-init
@@ -20,7 +18,6 @@ pub overflow_add-from : goal.overflow_add-from
 overflow_add-from c =
     let used-some : let from = c.loop-from.from in let end = from + c.feed-fed.result.used in (from < end) × (end ≤ length c.args.chunk.now) = let e = c.feed-fed.ensures in
     moves (progress_of c.loop-from.s) c.args.chunk.now c.loop-from.from _ (length c.loop-from.records) e.used e.bounds.used-within (omega (arith, c.loop-from.invariant.0)) c.loop-from-test.true in
-   
     omega (arith, used-some, c.well_formed)
 
 pub loop-from-smaller : goal.loop-from-smaller
@@ -33,7 +30,6 @@ pub loop-from-preserved : goal.loop-from-preserved
 loop-from-preserved c =
     let used-some : let from = c.loop-from.from in let end = from + c.feed-fed.result.used in (from < end) × (end ≤ length c.args.chunk.now) = let e = c.feed-fed.ensures in
     moves (progress_of c.loop-from.s) c.args.chunk.now c.loop-from.from _ (length c.loop-from.records) e.used e.bounds.used-within (omega (arith, c.loop-from.invariant.0)) c.loop-from-test.true in
-   
     let chunk = c.args.chunk.now in
     let rest = mid_of c.loop-from.from (length chunk - c.loop-from.from) chunk in
     let e = c.feed-fed.ensures in (

@@ -20,13 +20,11 @@ returns-then-not-received c =
 pub session_of-requires : goal.session_of-requires
 session_of-requires c =
     let accepted : c.read-received.result.accepted ≡ true = not-false _ c.if-not-received.false in
-   
     few-pages c.read-received.result c.args.input.now c.read-received.ensures.passed (accepted)
 
 pub returns : goal.returns
 returns c =
     let accepted : c.read-received.result.accepted ≡ true = not-false _ c.if-not-received.false in
-   
     let a = c.args in
     let yes = accepted in
     let o = opened-done c.read-received.result a.input.now c.read-received.ensures.passed yes c.read-received.ensures.used in

@@ -10,7 +10,6 @@ returns-then-stopped c =
     let after : let s = c.args.start in progress_of c.finish-ended.result.session ≡ (ended (first (held s.line s.length))).progress = let s = c.args.start in
     c.finish-ended.ensures.session ∙ ap (λ (e : Ended). e.progress) (first_ended s.phase s.number (state_in s) (held s.line s.length) c.requires) in
     let stops : (t : Bool) → c.stopped.result ≡ t → let s = c.args.start in is_stopped (ended (first (held s.line s.length))).progress ≡ t = λ t e. ap is_stopped (sym (after)) ∙ sym c.stopped.ensures ∙ e in
-   
     let s = c.args.start in
     let text = first-refused (held s.line s.length) (stops true c.if-stopped.true) in
     let w = rw (c.first_reason.ensures, ← text) at c.write_first-wrote.ensures in
@@ -21,7 +20,6 @@ returns c =
     let after : let s = c.args.start in progress_of c.finish-ended.result.session ≡ (ended (first (held s.line s.length))).progress = let s = c.args.start in
     c.finish-ended.ensures.session ∙ ap (λ (e : Ended). e.progress) (first_ended s.phase s.number (state_in s) (held s.line s.length) c.requires) in
     let stops : (t : Bool) → c.stopped.result ≡ t → let s = c.args.start in is_stopped (ended (first (held s.line s.length))).progress ≡ t = λ t e. ap is_stopped (sym (after)) ∙ sym c.stopped.ensures ∙ e in
-   
     let s = c.args.start in
     let text = first_done (held s.line s.length) (stops false c.if-stopped.false) in
     let w = rw (← text) at c.write_first-wrote-2.ensures in

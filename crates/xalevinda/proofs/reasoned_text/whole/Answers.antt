@@ -8,7 +8,6 @@ use Rattle.xalevinda.proofs.reasoned_text.whole.Goals as goal
 pub returns-then-size-out : goal.returns-then-size-out
 returns-then-size-out c =
     let bounded : length c.args.out.now < 2 ^ 63 = omega (arith, c.well_formed) in
-   
     let size = stored-size c.write-size.ensures in
     record { size = size; out = stored-whole c.write.ensures (bounded) size c.if-size-out.true }
 

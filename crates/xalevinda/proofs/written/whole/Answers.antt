@@ -10,7 +10,6 @@ use Rattle.xalevinda.proofs.written.whole.Goals as goal
 pub returns-then-line_feeds-out : goal.returns-then-line_feeds-out
 returns-then-line_feeds-out c =
     let bounded : length c.args.out.now < 2 ^ 63 = omega (arith, c.well_formed) in
-   
     let size = stored-size c.write_text.ensures in
     let fits = fits-at-once c.args.begins c.args.input.now _ _ _ size c.line_feeds.ensures c.if-line_feeds-out.true in
     record { size = size; out = stored-whole c.write_text.ensures (bounded) size fits }
@@ -18,7 +17,6 @@ returns-then-line_feeds-out c =
 pub returns-then-size-out : goal.returns-then-size-out
 returns-then-size-out c =
     let bounded : length c.args.out.now < 2 ^ 63 = omega (arith, c.well_formed) in
-   
     let size = stored-size c.write_text-size.ensures in
     record { size = size; out = stored-whole c.write_text-then-size-out.ensures (bounded) size c.if-size-out.true }
 

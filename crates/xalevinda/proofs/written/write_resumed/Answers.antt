@@ -25,7 +25,6 @@ both input =
 pub returns : goal.returns
 returns c =
     let bounded : length c.args.out.now < 2 ^ 63 = omega (arith, c.well_formed) in
-   
     let input = c.args.input.now in
     let f = opened input in
     let e = c.open-opened.ensures in
