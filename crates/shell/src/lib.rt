@@ -1,21 +1,28 @@
-// What the programs share: input from a descriptor or from a file that is named, and a listing to standard output, over the proved session.
-// The contracts say what is fed and which bytes are handed to the C library to be written. Which bytes it moves, and what it answers, no
-// contract can say.
+// What the programs share: input from standard input or from a file that is named, and a listing to standard output, over the proved session.
+// The contracts say what is fed and which bytes are handed over to be written, and, of a writer whose bytes are known, that it holds them
+// after. Which bytes the system moves, and what it answers, no contract can say.
 #![tactic(auto)]
 
-ghost use Rattle.std.specs.Prelude.{not, ◌&&◌, ◌≡◌, ◌≤◌, eqb, length, take};
+ghost use Rattle.std.specs.Prelude.{not, ◌&&◌, ◌≡◌, ◌≤◌, eqb, length, take, IfSome};
+ghost use Rattle.std.specs.Bool.{OnTrue};
+ghost use Rattle.std.specs.Io.KnownBytes.{Appends};
 ghost use Rattle.session.specs.Session.{consumed, fed, is_stopped, last_text, progress_of};
 ghost use Rattle.shell.specs.Names.{Within, is_input};
 
 use session::Session;
+use std::env::{Env, FillError};
+use std::fs::File;
+use std::io;
+use std::io::{ErrorKind, Read, Stderr, Stdin, Write};
+use std::process::ExitCode;
 
 mod hints; // what is wrong with a first line
 
+use hints::say;
 pub use hints::{hint, hint_end, hint_records};
 
-// The launcher opens this descriptor. A program of the language has no exit status: a byte written here tells the launcher that
-// something failed.
-const MARK: i32 = 3;
+// The name under which failures of standard input are reported where no file is named.
+pub const STANDARD_INPUT: &[u8] = b"standard input";
 
 // The bytes that are read at once, and as many that are written at once. What is done once a call is then spread over thousands of
 // lines.
@@ -44,37 +51,74 @@ fn is_input(name: &[u8]) -> bool
     false
 }
 
-// Reports a failure on standard error, as `bench: NAME: reason` with the reason that errno has, and leaves the mark. Every failure is
-// reported here. Where the launcher has not opened the mark's descriptor, that write fails, and nothing comes of it.
-fn failed(name: &[u8]) {
-    io::write_all(libc::STDERR_FILENO, b"bench: ");
-    os::fail(name);
-    io::write_all(MARK, b"1");
+// The reason in the text of an error, which bytes of 0 follow: the system's words, without the number that stands behind them.
+fn reason(text: &[u8]) -> &[u8] {
+    for end in 0..text.len() {
+        if text[end] == 0 || text[end..].starts_with(b" (os error ") {
+            return &text[..end];
+        }
+    }
+    text
 }
 
-// Opens an input by its name: a descriptor, or a negative number where that fails, which is reported. Writes the name to standard output
-// first where it is to be shown: it tells the listings of several inputs apart. Nothing is known of what the system answers.
-pub fn open_named(name: &[u8], shown: bool) -> i32 {
+// Reports a failure on standard error, as `bench: NAME: reason` with the system's reason. Every failure is reported here.
+fn failed(err: Stderr, name: &[u8], error: io::Error) {
+    let mut text = [0u8; 256];
+    let mut room: &mut [u8] = &mut text;
+    let _ = write!(room, "{error}");
+    say(err, name, reason(&text));
+}
+
+// An input that is open.
+#[derive(Drop)]
+pub enum Source {
+    Standard(Stdin),
+    Named(File),
+}
+
+impl Read for Source {
+    fn read(&mut self, buf: &mut [u8]) -> io::Result<usize> {
+        match self {
+            Source::Standard(input) => input.read(buf),
+            Source::Named(file) => file.read(buf),
+        }
+    }
+}
+
+// Opens a file by its name. Paths are text here.
+fn open_file(rt: &HostRuntime, name: &[u8]) -> io::Result<File> {
+    match str::from_utf8(name) {
+        Ok(path) => File::open(rt, path),
+        Err(_) => Err(io::Error::new(
+            ErrorKind::InvalidFilename,
+            "a name of a file has to be UTF-8",
+        )),
+    }
+}
+
+// Opens an input by its name, or answers none where that fails, which is reported. Writes the name to standard output first where it is to
+// be shown: it tells the listings of several inputs apart. Nothing is known of what the system answers.
+pub fn open_named(rt: &HostRuntime, name: &[u8], shown: bool) -> Option<Source> {
     if shown {
-        if !write_name(name) {
-            return -1;
+        if !write_name(rt.stderr(), &mut rt.stdout(), name) {
+            return None;
         }
     }
     if is_input(name) {
-        return 0;
+        return Some(Source::Standard(rt.stdin()));
     }
-    let descriptor = os::open_read(name);
-    if descriptor < 0 {
-        failed(name);
+    match open_file(rt, name) {
+        Ok(file) => Some(Source::Named(file)),
+        Err(error) => {
+            failed(rt.stderr(), name, error);
+            None
+        }
     }
-    descriptor
 }
 
-// Closes a descriptor, but for standard input.
-pub fn close_named(descriptor: i32) {
-    if 0 < descriptor {
-        libc::close(descriptor);
-    }
+// Closes an input, but for standard input.
+pub fn close_named(input: Source) {
+    drop(input);
 }
 
 // What a read gives: the number of bytes now at the start of the buffer, 0 at the end of the input; or the read failed.
@@ -85,24 +129,25 @@ pub enum Input {
 }
 
 // Reads once. A read that fails is reported under the name of the input.
-pub fn read(descriptor: i32, name: &[u8], chunk: &mut [u8]) -> Input
+pub fn read<R: Read>(err: Stderr, input: &mut R, name: &[u8], chunk: &mut [u8]) -> Input
     ensures { Within result chunk.new }
 {
-    let got = libc::read(descriptor, chunk);
-    if got < 0 {
-        failed(name);
-        return Input::Failed;
+    match input.read(chunk) {
+        Ok(n) => Input::Bytes(n),
+        Err(error) => {
+            failed(err, name, error);
+            Input::Failed
+        }
     }
-    Input::Bytes(io::count(got, chunk))
 }
 
 // Reads until the buffer is full or the input ends.
-pub fn fill(descriptor: i32, name: &[u8], chunk: &mut [u8]) -> Input
+pub fn fill<R: Read>(err: Stderr, input: &mut R, name: &[u8], chunk: &mut [u8]) -> Input
     ensures { Within result chunk.new }
 {
     let mut done: usize = 0;
     while done < chunk.len() {
-        let Input::Bytes(n) = read(descriptor, name, &mut chunk[done..]) else {
+        let Input::Bytes(n) = read(err, input, name, &mut chunk[done..]) else {
             return Input::Failed;
         };
         if n == 0 {
@@ -113,18 +158,22 @@ pub fn fill(descriptor: i32, name: &[u8], chunk: &mut [u8]) -> Input
     Input::Bytes(done)
 }
 
-// Writes bytes to standard output. A write that fails is reported. The answer is the C library's: nothing is known of it.
-pub fn write(bytes: &[u8]) -> bool {
-    let written = io::write_all(libc::STDOUT_FILENO, bytes);
-    if !written {
-        failed(b"standard output");
+// Writes bytes to standard output, or to any other writer. A write that fails is reported. Nothing is known of what the system answers.
+pub fn write<W: Write>(err: Stderr, output: &mut W, bytes: &[u8]) -> bool
+    ensures { OnTrue result (Appends (W.contents output.old) (W.contents output.new) bytes.now) }
+{
+    match output.write_all(bytes) {
+        Ok(()) => true,
+        Err(error) => {
+            failed(err, b"standard output", error);
+            false
+        }
     }
-    written
 }
 
 // Writes the name of an input as a line.
-fn write_name(name: &[u8]) -> bool {
-    write(name) && write(b"\n")
+fn write_name<W: Write>(err: Stderr, output: &mut W, name: &[u8]) -> bool {
+    write(err, output, name) && write(err, output, b"\n")
 }
 
 // A session, and how many bytes of a chunk it has used.
@@ -136,26 +185,44 @@ pub struct Turned {
 
 // Writes the records of a piece of a chunk. The session before it, and what was left of the chunk, are there for the contract: they
 // say which bytes these are.
-fn write_records(before: Session, rest: &[u8], records: &[u8]) -> bool
+fn write_records<W: Write>(
+    err: Stderr,
+    output: &mut W,
+    before: Session,
+    rest: &[u8],
+    records: &[u8],
+) -> bool
     requires { records.now ≡ (fed (progress_of before) rest.now 65536).text }
+    ensures { OnTrue result (Appends (W.contents output.old) (W.contents output.new)
+        (fed (progress_of before) rest.now 65536).text) }
 {
-    write(records)
+    write(err, output, records)
 }
 
 // Writes the last record. The session is there for the contract.
-fn write_last(before: Session, last: &[u8]) -> bool
+fn write_last<W: Write>(err: Stderr, output: &mut W, before: Session, last: &[u8]) -> bool
     requires { last.now ≡ last_text (progress_of before) }
+    ensures { OnTrue result (Appends (W.contents output.old) (W.contents output.new)
+        (last_text (progress_of before))) }
 {
-    write(last)
+    write(err, output, last)
 }
 
 // Feeds a chunk and writes its records, as many at a time as have room. If a write fails, the piece whose records
 // were not written does not count as used, nor does what follows it; else all of the chunk is used. That nothing else ends the loop
 // is in the code only, since nothing is known of what a write answers.
-pub fn turn(start: Session, chunk: &[u8], out: &mut [u8; BUFFER]) -> Turned
+pub fn turn<W: Write>(
+    err: Stderr,
+    output: &mut W,
+    start: Session,
+    chunk: &[u8],
+    out: &mut [u8; BUFFER],
+) -> Turned
     ensures used { result.used ≤ length chunk.now }
     ensures session { progress_of result.session
         ≡ (consumed (progress_of start) (take result.used chunk.now)).progress }
+    ensures written { result.used ≡ length chunk.now → Appends (W.contents output.old) (W.contents output.new)
+        (consumed (progress_of start) chunk.now).text }
 {
     let records: &mut [u8] = out;
     let mut s = start;
@@ -164,7 +231,7 @@ pub fn turn(start: Session, chunk: &[u8], out: &mut [u8; BUFFER]) -> Turned
         let rest = &chunk[from..];
         let fed = session::feed(s, rest, records);
         let wrote = fed.wrote;
-        if !write_records(s, rest, &records[..wrote]) {
+        if !write_records(err, output, s, rest, &records[..wrote]) {
             break;
         }
         from += fed.used;
@@ -186,40 +253,76 @@ pub fn goes_on(after: Turned, size: usize) -> bool
     (after.used == size) & !session::stopped(session)
 }
 
-// The input has ended: writes the record of a last line that lacks its line feed, or of an empty input.
-pub fn close(current: Session) {
+// The input has ended: writes the record of a last line that lacks its line feed, or of an empty input. Answers whether the write was done.
+pub fn close<W: Write>(err: Stderr, output: &mut W, current: Session) -> bool
+    ensures { OnTrue result (Appends (W.contents output.old) (W.contents output.new) (last_text (progress_of current))) }
+{
     let mut last = [0u8; session::LONGEST_RECORD];
     let ended = session::finish(current, &mut last);
     let wrote = ended.wrote;
-    write_last(current, &last[..wrote]);
+    write_last(err, output, current, &last[..wrote])
 }
 
-// Reads a script, or what is left of it, from the descriptor to its end, feeds it to a session and writes its listing. A read or a write
-// that fails is reported, and ends it. A first line that is refused gets a hint. A proved loop has to end, and nothing says that an input
-// does: so it counts down from a number that no run uses up. It has no contract: it returns nothing, and which bytes a read puts into the
-// buffer is open. `turn`, `goes_on` and `close` say what becomes of them.
-pub fn run(descriptor: i32, name: &[u8], start: Session) {
+// Reads a script, or what is left of it, to its end, feeds it to a session and writes its listing. A read or a write that fails is reported,
+// and ends it; the answer is whether none did. A first line that is refused gets a hint. A proved loop has to end, and nothing says that an
+// input does: so it counts up to a number that no run uses up. It has no contract: which bytes a read puts into the buffer is open. `turn`,
+// `goes_on` and `close` say what becomes of them.
+pub fn run<R: Read, W: Write>(
+    err: Stderr,
+    input: &mut R,
+    output: &mut W,
+    name: &[u8],
+    start: Session,
+) -> bool {
     let mut out = buffer();
     let mut chunk = buffer();
     let mut s = start;
-    let mut turns = u64::MAX;
-    while turns > 0 {
-        let Input::Bytes(n) = read(descriptor, name, &mut chunk) else {
-            return;
+    for _ in 0..u64::MAX {
+        let Input::Bytes(n) = read(err, input, name, &mut chunk) else {
+            return false;
         };
         if n == 0 {
             break;
         }
         let script = &chunk[..n];
-        let after = turn(s, script, &mut out);
+        let after = turn(err, output, s, script, &mut out);
         let next = after.session;
         if !goes_on(after, n) {
-            hint(name, s, next, script);
-            return;
+            hint(err, name, s, next, script);
+            return after.used == n;
         }
         s = next;
-        turns -= 1;
     }
-    hint_end(name, s);
-    close(s);
+    hint_end(err, name, s);
+    close(err, output, s)
+}
+
+// Is there an argument of that number? The first is number 1.
+pub fn has_argument(rt: &HostRuntime, number: usize) -> bool {
+    let mut name = name_buffer();
+    match argument(rt, number, &mut name) {
+        Some(_) => true,
+        None => false,
+    }
+}
+
+// Puts an argument at the start of the buffer, and answers how many bytes it has, if there is one of that number. One that is longer than
+// any path counts as empty: neither names a file.
+pub fn argument(rt: &HostRuntime, number: usize, name: &mut [u8]) -> Option<usize>
+    ensures { IfSome result (λ n. n ≤ length name.new) }
+{
+    match rt.arg(number, name) {
+        Ok(n) => Some(n),
+        Err(FillError::TooLong) => Some(0),
+        Err(FillError::NotPresent) => None,
+    }
+}
+
+// The status of a program: 0, or 1 where something failed.
+pub fn status(done: bool) -> ExitCode {
+    if done {
+        ExitCode::SUCCESS
+    } else {
+        ExitCode::FAILURE
+    }
 }
