@@ -114,7 +114,7 @@ pub fn access(
     if host_denies(setup.host_mask, access) {
         return Answer::Refused(Refusal::HostDenies);
     }
-    let outcome_of = access_value(access, word_at(words, page));
+    let result = access_value(access, word_at(words, page));
     store_word(words, page, access, value);
     Answer::Done(result)
 }

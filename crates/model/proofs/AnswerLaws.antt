@@ -306,4 +306,5 @@ first n (c ∷ cs) x r = go c.1 refl (first (number_of c.0) cs x (and_right (leb
 pub smallest : (s : State) (e : Event) → Smallest s e
 smallest s e =
     let f = first 1 (conditions s e) (rule s e).value (rising s e) in
-    record { applying = rw step_is f.applying; least = rw step_is f.least }
+    let g = subst (λ a. First 1 (conditions s e) a) (sym (step_is s e)) f in
+    record { applying = g.applying; least = g.least }

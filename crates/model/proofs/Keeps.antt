@@ -103,13 +103,15 @@ module _ (s : State) (x : Partition) where
 
 -- A configuration word is stored.
 config-parts : (s : State) (g w : ℕ) → well_formed_parts s ≡ true → 0 < g → (well_formed_level_by (mask_of s g) w (enabled_for s g) (mbec_for s g)) ≡ true → well_formed_parts (put_partition s (set_config (partition s) g w)) ≡ true
-config-parts s g w h o new = partition-parts s (set_config (partition s) g w) h (unfold set_config in same-sets s _ refl refl) (λ l a old.
-    unfold set_config put_partition config_of config_in mask_of mask_in enabled_for mbec_for partition shape pages in go l old (ltb 0 l && is_level (shape s) l) refl)
+config-parts s g w h o new = partition-parts s (set_config (partition s) g w) h (unfold set_config in same-sets s _ refl refl) (λ l a old. test l old)
   where
     go : (l : ℕ) → Tested s l → (b : Bool) → (ltb 0 l && is_level (shape s) l) ≡ b
         → (well_formed_level_by (mask_of s l) (cond b (number_at 4 (stored 4 (partition s).configs g w) l) 0) (enabled_for s l) (mbec_for s l)) ≡ true
     go l old true e = number-cases (λ y. (well_formed_level_by (mask_of s l) y (enabled_for s l) (mbec_for s l)) ≡ true) 4 (partition s).configs g l w (unfold config_of config_in in rw e at old) (λ q. rw q new)
     go l old false e = unfold config_of config_in in rw e at old
+
+    test : (l : ℕ) → Tested s l → Tested (put_partition s (set_config (partition s) g w)) l
+    test l old = unfold set_config put_partition config_of config_in mask_of mask_in enabled_for mbec_for partition shape pages in go l old (ltb 0 l && is_level (shape s) l) refl
 
 -- New masks that are as good as the old ones, and not KMX alone where that is refused.
 masks-tests : (m n : ℕ → ℕ) (w : ℕ) (on mbec : Bool) → ((p : ℕ) → valid_mask (m p) ≡ true → valid_mask (n p) ≡ true) → (mbec ≡ true → turns_on w ≡ true → (p : ℕ) → not (kernel_only (m p)) ≡ true → not (kernel_only (n p)) ≡ true) →

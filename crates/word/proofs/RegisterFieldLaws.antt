@@ -30,7 +30,8 @@ next_row : (first : ℕ) (all : List Layout) (register : ℕ) → register < len
     ≡ get_or (first_rows first all) register 0 + length (positions_from 0 (get_or all register []))
 next_row first [] register h = absurd (not-suc-le-zero h)
 next_row first (layout ∷ all) zero h = first-row _ all
-next_row first (layout ∷ all) (suc register) h = next_row _ all register (le_of_suc-le-suc h)
+next_row first (layout ∷ all) (suc register) h =
+    next_row (first + length (positions_from 0 layout)) all register (le_of_suc-le-suc h)
 
 pub rows-of-register : (register : ℕ) → register < length layouts
     → get_or (first_rows 0 layouts) (register + 1) 0

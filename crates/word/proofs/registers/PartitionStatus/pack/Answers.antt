@@ -1,0 +1,12 @@
+-- `PartitionStatus::pack` meets its contract: it puts the values into the fields of the layout, in order. Assumes nothing.
+use Rattle.std.proofs.Common.{lit≤}
+use Rattle.word.proofs.registers.PartitionStatus.pack.Goals as goal
+
+pub put-word-requires : goal.put-word-requires
+put-word-requires c = lit≤ tt
+
+pub put-word-requires-2 : goal.put-word-requires-2
+put-word-requires-2 c = lit≤ tt
+
+pub put-requires : goal.put-requires
+put-requires c = lit≤ tt
