@@ -21,9 +21,6 @@ mod hints; // what is wrong with a first line
 use hints::say;
 pub use hints::{hint, hint_end, hint_records};
 
-// The name under which failures of standard input are reported where no file is named.
-pub const STANDARD_INPUT: &[u8] = b"standard input";
-
 // The bytes that are read at once, and as many that are written at once. What is done once a call is then spread over thousands of
 // lines.
 pub const BUFFER: usize = 65536;
@@ -298,17 +295,14 @@ pub fn run<R: Read, W: Write>(
 }
 
 // Is there an argument of that number? The first is number 1.
-pub fn has_argument(rt: &HostRuntime, number: usize) -> bool {
+fn has_argument(rt: &HostRuntime, number: usize) -> bool {
     let mut name = name_buffer();
-    match argument(rt, number, &mut name) {
-        Some(_) => true,
-        None => false,
-    }
+    argument(rt, number, &mut name).is_some()
 }
 
 // Puts an argument at the start of the buffer, and answers how many bytes it has, if there is one of that number. One that is longer than
 // any path counts as empty: neither names a file.
-pub fn argument(rt: &HostRuntime, number: usize, name: &mut [u8]) -> Option<usize>
+fn argument(rt: &HostRuntime, number: usize, name: &mut [u8]) -> Option<usize>
     ensures { IfSome result (λ n. n ≤ length name.new) }
 {
     match rt.arg(number, name) {
@@ -318,8 +312,42 @@ pub fn argument(rt: &HostRuntime, number: usize, name: &mut [u8]) -> Option<usiz
     }
 }
 
-// The status of a program: 0, or 1 where something failed.
-pub fn status(done: bool) -> ExitCode {
+// Runs a program on an input that is named.
+fn on_named<F: Fn(&mut Source, &[u8]) -> bool>(
+    rt: &HostRuntime,
+    program: &F,
+    name: &[u8],
+    shown: bool,
+) -> bool
+    requires { F.IsAlwaysCallable program.now }
+{
+    let Some(mut input) = open_named(rt, name, shown) else {
+        return false;
+    };
+    let done = program(&mut input, name);
+    close_named(input);
+    done
+}
+
+// Runs a program on standard input, or on each of the files that the arguments name, from two files on under the file's name; the name -
+// stands for standard input. The program answers whether nothing failed. After a failure the next file has its turn, and in the end the
+// status is 1.
+pub fn run_on_each<F: Fn(&mut Source, &[u8]) -> bool>(rt: &HostRuntime, program: F) -> ExitCode
+    requires { F.IsAlwaysCallable program }
+{
+    let mut name = name_buffer();
+    let mut done = true;
+    if !has_argument(rt, 1) {
+        let mut input = Source::Standard(rt.stdin());
+        done = program(&mut input, b"standard input");
+    }
+    let shown = has_argument(rt, 2);
+    for number in 1..usize::MAX {
+        let Some(size) = argument(rt, number, &mut name) else {
+            break;
+        };
+        done &= on_named(rt, &program, &name[..size], shown);
+    }
     if done {
         ExitCode::SUCCESS
     } else {

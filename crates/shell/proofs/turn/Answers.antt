@@ -30,8 +30,7 @@ loop-from-preserved g c =
     let room = length at.records in
     let contents = g.W.Write.contents in
     let writes : Appends (contents at.output) (contents c.write_records.new.output) (fed (progress_of at.s) (left chunk at.from) room).text =
-    subst (λ (n : ℕ). Appends (contents at.output) (contents c.write_records.new.output) (fed (progress_of at.s) (left chunk at.from) n).text) at.invariant.0 c.if-not-write_records.ensures in
-    (
+    subst (λ (n : ℕ). Appends (contents at.output) (contents c.write_records.new.output) (fed (progress_of at.s) (left chunk at.from) n).text) at.invariant.0 c.if-not-write_records.ensures in (
       omega (arith, at.invariant.0, c.feed-fed.auto.out),
       used-more chunk at.from c.feed-fed.result.used room _ _ at.invariant.1 e.used e.bounds.used-within (omega (arith, at.invariant.0)) c.loop-from-test.true e.session writes,
     )
