@@ -73,9 +73,9 @@ pub fn secure(
 
 // 9: the level that watches the register is entered, and nothing else changes.
 fn intercept(shape: Shape, vp: &mut Record, receiver: Level) -> Answer
-    ensures* answer { λ r. ⌜ r ≡ Intercept receiver ⌝ }
-    ensures* entered { λ _. ⌜ vp_of vp.new
-        ≡ enter shape (vp_of vp.old) receiver.0 by_interrupt ⌝ }
+    ensures answer { result ≡ Intercept receiver }
+    ensures entered { vp_of vp.new
+        ≡ enter shape (vp_of vp.old) receiver.0 by_interrupt }
 {
     entry::enter(shape, vp, receiver, BY_INTERRUPT);
     Answer::Intercept(receiver)

@@ -1,0 +1,10 @@
+-- `chunk::held_length` meets its contract: the buffer has 257 bytes. Assumes nothing.
+use Prim.Native.Nat.{min}
+use native.Mathlib.Omega.{arith}
+use lib.ListN.{length-take}
+use Rattle.chunk.proofs.held_length.Goals as goal
+
+pub returns : goal.returns
+returns c =
+    let a = c.args in
+    omega (arith, c.at_most.ensures, c.buffer-1.given, length-take (min a.length 257) a.line.now)
