@@ -1,0 +1,8 @@
+-- `well_formed_vp::well_entered` meets its contract: the clauses of the definition, joined. Assumes nothing.
+use Rattle.model.specs.WellFormed.{well_entered}
+use Rattle.state.proofs.FormedClauses.{all-joined}
+use Rattle.state.proofs.well_formed_vp.well_entered.Goals as goal
+
+pub returns : goal.returns
+unfolding well_entered
+returns c = all-joined _ _
