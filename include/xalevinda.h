@@ -1,5 +1,5 @@
-/* The functions of target/staticlib/libxalevinda.a for C and C++. `rt staticlib xalevinda` proves and builds it, for the calling
- * convention of x86-64 Linux. Their contracts are in crates/xalevinda/src/lib.rt.
+/* The functions of target/staticlib/libxalevinda.a for C and C++. scripts/library proves and builds it, for the calling convention of
+ * x86-64 Linux. Their contracts are in crates/xalevinda_c/src/lib.rt.
  *
  * Any lengths, bytes and numbers may be given. A pointer is never null, also where its length is 0, and what a function writes (`out`,
  * `machine`, `shown`) overlaps nothing else that it is handed. The library has no data of its own that changes, so several threads may call
@@ -9,7 +9,7 @@
  * call nothing of the system. The code is position-independent. As the calling convention allows, it uses SSE2 registers and the 128
  * bytes below the stack pointer (the red zone), so a handler that interrupts it must leave both as they are. The deepest call,
  * xalevinda_save, takes 214 KB of stack, so 256 KB are enough; for xalevinda_open and xalevinda_step 16 KB are (counted in the machine
- * code, not proved). */
+ * code that the older kit, rattle-kit-5, made; not proved). */
 #ifndef XALEVINDA_H
 #define XALEVINDA_H
 

@@ -41,7 +41,9 @@ fn put_line(out: &mut [u8], line: &[u8]) -> usize
     ensures value { result ≡ length line.now }
     ensures out_after { out.new ≡ sets out.old 0 line.now }
 {
-    bytes::copy(line, out)
+    let size = line.len();
+    out[..size].copy_from_slice(line);
+    size
 }
 
 // Writes the record of line 0, done or refused, at the start of `out`.

@@ -24,7 +24,8 @@ Walk c a (p ∷ ps) b = (a ≡ At p) × Walk c (next_of c p) ps b
 module _ (c : Setup) where
   walk_ends : {a d b e : Next} (ps : List Place) → a ≡ d → e ≡ b → Walk c d ps e → Walk c a ps b
   walk_ends [] p q h = p ∙ h ∙ q
-  walk_ends (x ∷ ps) p q (h, k) = (p ∙ h, walk_ends ps refl q k)
+  walk_ends {a = a} {d = d} {b = b} {e = e} (x ∷ ps) p q (h, k) =
+      (p ∙ h, walk_ends {a = next_of c x} {d = next_of c x} {b = b} {e = e} ps refl q k)
 
   walk-append : (a m b : Next) (ps qs : List Place) → Walk c a ps m → Walk c m qs b → Walk c a (ps ++ qs) b
   walk-append a m b [] qs h k = walk_ends qs h refl k

@@ -1,32 +1,28 @@
 -- Laws of a text that is written piece by piece into a buffer, each piece only where it has room, while its bytes are counted.
 -- Assumes nothing.
 use mathlib.Core.Bool.{Bool, true, false, cond}
-use mathlib.Core.List.{List, [], ◌++◌, append_assoc, append-nil}
+use mathlib.Core.List.{List, [], ◌++◌, append_assoc}
 use mathlib.Core.Path.{◌≡◌, refl, sym, ap, ◌∙◌}
 use Prim.Native.Nat.{ℕ, ◌+◌, ◌-◌, ◌^◌, ◌≤◌, ◌<◌}
-use borrow.Rule.Slice.PartMut.{mid_of, put_mid}
+use borrow.Rule.Slice.PartMut.{put_mid}
 use native.Mathlib.Omega.{arith}
-use lib.ListN.{drop, length, length-append, length-drop, take}
-use lib.Seq.{drop-drop, drop-length, length-sets, sets, sets-eq, take-length}
+use lib.ListN.{drop, length, length-append, take}
+use lib.Seq.{drop-drop, length-sets, sets, sets-eq}
 use Rattle.decimal.proofs.TextRoom.{with-no-room, with-room}
 use Rattle.decimal.specs.Write.{has_room, with_text}
 use Rattle.script.proofs.StoredTexts.{sets-append}
-use Rattle.session.proofs.Callers.{front, part-whole}
+use Rattle.session.proofs.Callers.{front}
 use Rattle.xalevinda.specs.Exports.{at_most_word, size_of}
 use Rattle.xalevinda.specs.StoredListing.{Stored}
 
--- Nothing stands after what is left from a place on.
-after-part : (l : List ℕ) (at : ℕ) → drop (length l - at) (drop at l) ≡ []
-after-part l at = rw (← length-drop at l) (drop-length (drop at l))
-
--- A text was copied over the start of what stands from a place on.
+-- A text was copied over a part of the buffer.
 pub copied : (buffer : List ℕ) (at : ℕ) (text : List ℕ) → at + length text ≤ length buffer
-    → (rest : List ℕ) → rest ≡ take (length text) text ++ drop (length text) (mid_of at (length buffer - at) buffer)
-    → put_mid at (length buffer - at) buffer rest ≡ with_text buffer at text
-copied buffer at text room rest e =
-    let over : rest ≡ text ++ drop (at + length text) buffer = e ∙ rw (part-whole buffer at, take-length text, drop-drop (length text) at buffer) in
-    rw (after-part buffer at, append-nil rest, over, with-room buffer at text room)
-    (sym (append_assoc (take at buffer) text (drop (at + length text) buffer)) ∙ sym (sets-eq text buffer at room))
+    → (part : List ℕ) → part ≡ text → put_mid at (at + length text - at) buffer part ≡ with_text buffer at text
+copied buffer at text room part e =
+    let size : at + length text - at ≡ length text = omega arith in
+    rw (e, size, with-room buffer at text room, sets-eq text buffer at room)
+    (ap (λ (l : List ℕ). take at buffer ++ (text ++ l)) (drop-drop (length text) at buffer)
+    ∙ sym (append_assoc (take at buffer) text (drop (at + length text) buffer)))
 
 -- The buffer keeps its length.
 pub with-length : (buffer : List ℕ) (at : ℕ) (text : List ℕ) → length (with_text buffer at text) ≡ length buffer

@@ -1,5 +1,5 @@
-// The library for other programs: functions over numbers and slices, exported under the names of C. Each takes any arguments, calls
-// nothing of the system and allocates nothing. include/xalevinda.h declares them for C and C++, examples/rust/xalevinda.rs for Rust.
+// The library for other programs: functions over numbers and slices. Each takes any arguments, calls nothing of the system and allocates
+// nothing. crates/xalevinda_c exports them to C under the same names, since a function of a library is not exported.
 #![tactic(auto)]
 
 ghost use Rattle.std.specs.Prelude.{◌≡◌};
@@ -21,8 +21,7 @@ mod written; // a text written into a buffer
 // The listing of a whole script (01, "Script and listing"), written at the start of `out`: all of it, or nothing where it has no room.
 // Returns how many bytes the listing has, or the largest number where it has more. The script is run once to count them, and once more
 // to write them. Where `out` has room for a longest record for every line feed and for one line more, it is run once only.
-#[unsafe(no_mangle)]
-pub extern "C" fn xalevinda_listing(script: &[u8], out: &mut [u8]) -> usize
+pub fn xalevinda_listing(script: &[u8], out: &mut [u8]) -> usize
     ensures size { result ≡ size_of (listing script.now) }
     ensures out { out.new ≡ with_text out.old 0 (listing script.now) }
 {
@@ -31,8 +30,7 @@ pub extern "C" fn xalevinda_listing(script: &[u8], out: &mut [u8]) -> usize
 
 // What saving after a script writes (02, request 2): the records of the state after it, or the refusal line where its first line is bad. All of
 // it at the start of `out`, or nothing where it has no room. Returns how many bytes it has: fewer than 64 KB. The script is run once.
-#[unsafe(no_mangle)]
-pub extern "C" fn xalevinda_save(script: &[u8], out: &mut [u8]) -> usize
+pub fn xalevinda_save(script: &[u8], out: &mut [u8]) -> usize
     ensures size { result ≡ size_of (saved script.now) }
     ensures out { out.new ≡ with_text out.old 0 (saved script.now) }
 {
@@ -46,8 +44,7 @@ pub extern "C" fn xalevinda_save(script: &[u8], out: &mut [u8]) -> usize
 
 // What resuming writes (02, request 2) of an input: the records of a state, and then a script without first line. The answer to the records
 // is line 0. It is written, counted and run as for `xalevinda_listing`.
-#[unsafe(no_mangle)]
-pub extern "C" fn xalevinda_resume(input: &[u8], out: &mut [u8]) -> usize
+pub fn xalevinda_resume(input: &[u8], out: &mut [u8]) -> usize
     ensures size { result ≡ size_of (resumed input.now) }
     ensures out { out.new ≡ with_text out.old 0 (resumed input.now) }
 {
@@ -56,8 +53,7 @@ pub extern "C" fn xalevinda_resume(input: &[u8], out: &mut [u8]) -> usize
 
 // Why an access is allowed or denied (02, request 3): the sheet of the access line that follows the records of a state, or the verdict on the
 // sheet that follows it. All of it at the start of `out`, or nothing where it has no room. Returns how many bytes it has: at most 261.
-#[unsafe(no_mangle)]
-pub extern "C" fn xalevinda_explain(input: &[u8], out: &mut [u8]) -> usize
+pub fn xalevinda_explain(input: &[u8], out: &mut [u8]) -> usize
     ensures size { result ≡ size_of (explained input.now) }
     ensures out { out.new ≡ with_text out.old 0 (explained input.now) }
 {
@@ -69,8 +65,7 @@ pub extern "C" fn xalevinda_explain(input: &[u8], out: &mut [u8]) -> usize
 
 // The listing of a whole script with the reason for every answer, written at the start of `out`: all of it, or nothing where it has no room.
 // Returns how many bytes it has, or the largest number where it has more. The script is run once to count them, and once more to write them.
-#[unsafe(no_mangle)]
-pub extern "C" fn xalevinda_why(script: &[u8], out: &mut [u8]) -> usize
+pub fn xalevinda_why(script: &[u8], out: &mut [u8]) -> usize
     ensures size { result ≡ size_of (reasoned script.now) }
     ensures out { out.new ≡ with_text out.old 0 (reasoned script.now) }
 {
@@ -79,8 +74,7 @@ pub extern "C" fn xalevinda_why(script: &[u8], out: &mut [u8]) -> usize
 
 // Lockstep: makes the fresh machine of a first line (01, "Script and listing") in the words of `machine`. Returns 0, or the number of the reason
 // why there is none: fewer than lockstep::MACHINE_WORDS words, a malformed line, or numbers that are not admissible. Then no word changes.
-#[unsafe(no_mangle)]
-pub extern "C" fn xalevinda_open(line: &[u8], machine: &mut [u64]) -> u64
+pub fn xalevinda_open(line: &[u8], machine: &mut [u64]) -> u64
     ensures reason { result ≡ (opened line.now machine.old).reason }
     ensures words { machine.new ≡ (opened line.now machine.old).words }
     ensures state { state_in machine.new ≡ (opened line.now machine.old).state }
@@ -90,8 +84,7 @@ pub extern "C" fn xalevinda_open(line: &[u8], machine: &mut [u64]) -> u64
 
 // Lockstep: answers one line after the first on the words of `machine`, whatever they hold. Returns the number of the answer; `shown` gets its
 // value, the level column and the number of the reason. A slice that is too short gets answer 1 and no word of the machine changes.
-#[unsafe(no_mangle)]
-pub extern "C" fn xalevinda_step(machine: &mut [u64], line: &[u8], shown: &mut [u64]) -> u64
+pub fn xalevinda_step(machine: &mut [u64], line: &[u8], shown: &mut [u64]) -> u64
     ensures answer { result
         ≡ (stepped machine.old line.now shown.old).reply.answer }
     ensures words { machine.new
@@ -106,8 +99,7 @@ pub extern "C" fn xalevinda_step(machine: &mut [u64], line: &[u8], shown: &mut [
 
 // The value of a field of a register's word. Registers and their used fields are numbered from 0 in the order of 001; any other number
 // of a register or a field gives 0.
-#[unsafe(no_mangle)]
-pub extern "C" fn xalevinda_field(register: u64, field: u64, word: u64) -> u64
+pub fn xalevinda_field(register: u64, field: u64, word: u64) -> u64
     ensures { result ≡ field_of register field word }
 {
     word::registers::field_of(register, field, word)
@@ -115,8 +107,7 @@ pub extern "C" fn xalevinda_field(register: u64, field: u64, word: u64) -> u64
 
 // The word with that field replaced by the low bits of `value`; the other bits stay. Any other number of a register or a field gives
 // the word as it is.
-#[unsafe(no_mangle)]
-pub extern "C" fn xalevinda_with_field(register: u64, field: u64, word: u64, value: u64) -> u64
+pub fn xalevinda_with_field(register: u64, field: u64, word: u64, value: u64) -> u64
     ensures { result ≡ with_field register field word value }
 {
     word::registers::with_field(register, field, word, value)

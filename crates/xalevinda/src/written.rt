@@ -60,7 +60,7 @@ pub(crate) fn put(out: &mut [u8], at: usize, text: &[u8])
     if out.len() - at < text.len() {
         return;
     }
-    bytes::copy(text, &mut out[at..]);
+    out[at..at + text.len()].copy_from_slice(text);
 }
 
 // Feeds a script, or what is left of one, to a session, and ends it. Writes its records into `out` from `begun` on where they have room,
