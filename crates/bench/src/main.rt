@@ -6,7 +6,7 @@
 use std::process::ExitCode;
 
 fn main(rt: HostRuntime) -> ExitCode {
-    shell::run_on_each(&rt, |input, name| {
-        shell::run(rt.stderr(), input, &mut rt.stdout(), name, session::fresh())
+    shell::run_on_each(&rt, |report, input, name| {
+        shell::run(report, input, &mut rt.stdout(), name, session::fresh())
     })
 }

@@ -5,13 +5,13 @@
 // `inquiry::explain` and `write_explained` say what becomes of it.
 #![tactic(auto)]
 
-ghost use Rattle.std.specs.Prelude.{◌≡◌, length};
-ghost use Rattle.std.specs.Bool.{OnTrue};
+ghost use Rattle.std.specs.Prelude.{◌≡◌, length, IsTrue};
 ghost use Rattle.std.specs.Io.KnownBytes.{Appends};
 ghost use Rattle.inquiry.specs.Inquiry.{explained};
+ghost use Rattle.shell.specs.Report.{is_done};
 
-use shell::Input;
-use std::io::{Read, Stderr, Write};
+use shell::{Input, Report};
+use std::io::{Read, Write};
 use std::process::ExitCode;
 
 // More bytes than an input may have: one that is longer is refused, and so is its beginning.
@@ -24,29 +24,31 @@ fn buffer() -> [u8; BUFFER]
 }
 
 // Writes the sheet or the verdict. The bytes that were read are there for the contract.
-fn write_explained<W: Write>(err: Stderr, output: &mut W, input: &[u8], text: &[u8]) -> bool
+fn write_explained<W: Write>(report: &mut Report, output: &mut W, input: &[u8], text: &[u8])
     requires { text.now ≡ explained input.now }
-    ensures { OnTrue result (Appends (W.contents output.old) (W.contents output.new) (explained input.now)) }
+    ensures earlier { IsTrue (is_done report.new.outcome) → IsTrue (is_done report.old.outcome) }
+    ensures written { IsTrue (is_done report.new.outcome) → Appends (W.contents output.old) (W.contents output.new)
+        (explained input.now) }
 {
-    shell::write(err, output, text)
+    shell::write(report, output, text);
 }
 
-// Reads the input, as much of it as counts, and answers whether no read or write failed.
-fn explain<R: Read, W: Write>(err: Stderr, input: &mut R, output: &mut W, name: &[u8]) -> bool {
+// Reads the input, as much of it as counts.
+fn explain<R: Read, W: Write>(report: &mut Report, input: &mut R, output: &mut W, name: &[u8]) {
     let mut chunk = buffer();
-    let Input::Bytes(n) = shell::fill(err, input, name, &mut chunk) else {
-        return false;
+    let Input::Bytes(n) = shell::fill(report, input, name, &mut chunk) else {
+        return;
     };
     let asked = &chunk[..n];
-    shell::hint_records(err, name, asked);
+    shell::hint_records(report.err, name, asked);
     let mut out = [0u8; sheet::LONGEST_VERDICT];
     let size = inquiry::explain(asked, &mut out);
-    write_explained(err, output, asked, &out[..size])
+    write_explained(report, output, asked, &out[..size]);
 }
 
 fn main(rt: HostRuntime) -> ExitCode {
     shell::run_on_each(
         &rt,
-        |input, name| explain(rt.stderr(), input, &mut rt.stdout(), name),
+        |report, input, name| explain(report, input, &mut rt.stdout(), name),
     )
 }

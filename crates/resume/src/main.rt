@@ -5,56 +5,60 @@
 // and the functions of `shell` say what becomes of it.
 #![tactic(auto)]
 
-ghost use Rattle.std.specs.Prelude.{◌≡◌};
+ghost use Rattle.std.specs.Prelude.{◌≡◌, ◌&&◌};
 ghost use Rattle.std.specs.Bool.{OnTrue};
 ghost use Rattle.std.specs.Io.KnownBytes.{Appends};
 ghost use Rattle.passing.specs.PassingSessions.{opened};
+ghost use Rattle.shell.specs.Report.{is_done};
 
 use session::LONGEST_RECORD;
-use shell::{BUFFER, Input};
-use std::io::{Read, Stderr, Write};
+use shell::{BUFFER, Input, Report};
+use std::io::{Read, Write};
 use std::process::ExitCode;
 
 // Writes the answer to the records. The bytes that were read are there for the contract.
-fn write_line_zero<W: Write>(err: Stderr, output: &mut W, input: &[u8], line: &[u8]) -> bool
+fn write_line_zero<W: Write>(report: &mut Report, output: &mut W, input: &[u8], line: &[u8]) -> bool
     requires { line.now ≡ (opened input.now).text }
-    ensures { OnTrue result (Appends (W.contents output.old) (W.contents output.new) (opened input.now).text) }
+    ensures outcome { is_done report.new.outcome ≡ (is_done report.old.outcome && result) }
+    ensures written { OnTrue result (Appends (W.contents output.old) (W.contents output.new)
+        (opened input.now).text) }
 {
-    shell::write(err, output, line)
+    shell::write(report, output, line)
 }
 
-// Reads the input to its end, or until its records are refused, and answers whether no read or write failed. Its first 64 KB, or all of it
-// where it is shorter, have the records whole (`ResumedSession` of crate `passing`).
-fn resume<R: Read, W: Write>(err: Stderr, input: &mut R, output: &mut W, name: &[u8]) -> bool {
+// Reads the input to its end, or until its records are refused. Its first 64 KB, or all of it where it is shorter, have the records whole
+// (`ResumedSession` of crate `passing`).
+fn resume<R: Read, W: Write>(report: &mut Report, input: &mut R, output: &mut W, name: &[u8]) {
     let mut chunk = shell::buffer();
-    let Input::Bytes(n) = shell::fill(err, input, name, &mut chunk) else {
-        return false;
+    let Input::Bytes(n) = shell::fill(report, input, name, &mut chunk) else {
+        return;
     };
     let mut line = [0u8; LONGEST_RECORD];
     let begun = &chunk[..n];
-    shell::hint_records(err, name, begun);
+    shell::hint_records(report.err, name, begun);
     let opened = passing::open(begun, &mut line);
     let wrote = opened.wrote;
-    if !write_line_zero(err, output, begun, &line[..wrote]) {
-        return false;
+    if !write_line_zero(report, output, begun, &line[..wrote]) {
+        return;
     }
     let mut out = shell::buffer();
     let session = opened.session;
     let used = opened.used;
-    let after = shell::turn(err, output, session, &begun[used..], &mut out);
+    let after = shell::turn(report, output, session, &begun[used..], &mut out);
     if !shell::goes_on(after, n - used) {
-        return after.used == n - used;
+        return;
     }
     let next = after.session;
     if n < BUFFER {
-        return shell::close(err, output, next);
+        shell::close(report, output, next);
+        return;
     }
-    shell::run(err, input, output, name, next)
+    shell::run(report, input, output, name, next);
 }
 
 fn main(rt: HostRuntime) -> ExitCode {
     shell::run_on_each(
         &rt,
-        |input, name| resume(rt.stderr(), input, &mut rt.stdout(), name),
+        |report, input, name| resume(report, input, &mut rt.stdout(), name),
     )
 }

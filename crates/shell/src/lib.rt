@@ -3,11 +3,12 @@
 // after. Which bytes the system moves, and what it answers, no contract can say.
 #![tactic(auto)]
 
-ghost use Rattle.std.specs.Prelude.{not, ◌&&◌, ◌≡◌, ◌≤◌, eqb, length, take, IfSome};
-ghost use Rattle.std.specs.Bool.{OnTrue};
+ghost use Rattle.std.specs.Prelude.{not, ◌&&◌, ◌≡◌, ◌≤◌, ◌==◌, eqb, length, take, IfSome, IsTrue, is_some};
+ghost use Rattle.std.specs.Bool.{IsFalse, OnTrue};
 ghost use Rattle.std.specs.Io.KnownBytes.{Appends};
 ghost use Rattle.session.specs.Session.{consumed, fed, is_stopped, last_text, progress_of};
-ghost use Rattle.shell.specs.Names.{Within, is_input};
+ghost use Rattle.shell.specs.Names.{Taken, Within, is_input};
+ghost use Rattle.shell.specs.Report.{is_done, is_read};
 
 use session::Session;
 use std::env::{Env, FillError};
@@ -30,6 +31,9 @@ pub fn buffer() -> [u8; BUFFER]
 {
     [0; BUFFER]
 }
+
+// The status of a program that SIGPIPE ends, as a shell has it.
+const UNREAD: u8 = 141;
 
 // A name is at most as long as a path may be.
 pub fn name_buffer() -> [u8; 4096]
@@ -58,12 +62,72 @@ fn reason(text: &[u8]) -> &[u8] {
     text
 }
 
-// Reports a failure on standard error, as `bench: NAME: reason` with the system's reason. Every failure is reported here.
-fn failed(err: Stderr, name: &[u8], error: io::Error) {
+// How far a run of a program has gone well. Unread: nobody reads its output any more.
+#[derive(Clone, Copy)]
+pub enum Outcome {
+    Done,
+    Failed,
+    Unread,
+}
+
+// Where failures are reported, and what is on record of them.
+#[derive(Clone, Copy)]
+pub struct Report {
+    pub err: Stderr,
+    pub outcome: Outcome,
+}
+
+// A report before the first failure.
+pub fn report_to(err: Stderr) -> Report
+    ensures { IsTrue (is_done result.outcome) }
+{
+    Report {
+        err,
+        outcome: Outcome::Done,
+    }
+}
+
+// Reports a failure on standard error, as `bench: NAME: reason` with the system's reason. Every failure is reported here, but for output that
+// nobody reads.
+fn failed(report: &mut Report, name: &[u8], error: io::Error)
+    ensures { IsFalse (is_done report.new.outcome) }
+{
     let mut text = [0u8; 256];
     let mut room: &mut [u8] = &mut text;
     let _ = write!(room, "{error}");
-    say(err, name, reason(&text));
+    say(report.err, name, reason(&text));
+    report.outcome = worse(report.outcome);
+}
+
+// The outcome after a failure.
+fn worse(outcome: Outcome) -> Outcome
+    ensures { IsFalse (is_done result) }
+{
+    match outcome {
+        Outcome::Done => Outcome::Failed,
+        Outcome::Failed => Outcome::Failed,
+        Outcome::Unread => Outcome::Unread,
+    }
+}
+
+// The output could not be written. That nobody reads it is put on record only: a program that writes for `head` ends quietly.
+fn unwritten(report: &mut Report, error: io::Error)
+    ensures { IsFalse (is_done report.new.outcome) }
+{
+    if error.kind() == ErrorKind::BrokenPipe {
+        report.outcome = Outcome::Unread;
+    } else {
+        failed(report, b"standard output", error);
+    }
+}
+
+// The status of a program: 0, or 1 where something failed. Where nobody reads the output, it is that of a program that the signal for it ends.
+pub fn status(report: Report) -> ExitCode {
+    match report.outcome {
+        Outcome::Done => ExitCode::SUCCESS,
+        Outcome::Failed => ExitCode::FAILURE,
+        Outcome::Unread => ExitCode::from(UNREAD),
+    }
 }
 
 // An input that is open.
@@ -95,9 +159,11 @@ fn open_file(rt: &HostRuntime, name: &[u8]) -> io::Result<File> {
 
 // Opens an input by its name, or answers none where that fails, which is reported. Writes the name to standard output first where it is to
 // be shown: it tells the listings of several inputs apart. Nothing is known of what the system answers.
-pub fn open_named(rt: &HostRuntime, name: &[u8], shown: bool) -> Option<Source> {
+pub fn open_named(rt: &HostRuntime, report: &mut Report, name: &[u8], shown: bool) -> Option<Source>
+    ensures { is_done report.new.outcome ≡ (is_done report.old.outcome && is_some result) }
+{
     if shown {
-        if !write_name(rt.stderr(), &mut rt.stdout(), name) {
+        if !write_name(report, &mut rt.stdout(), name) {
             return None;
         }
     }
@@ -107,7 +173,7 @@ pub fn open_named(rt: &HostRuntime, name: &[u8], shown: bool) -> Option<Source> 
     match open_file(rt, name) {
         Ok(file) => Some(Source::Named(file)),
         Err(error) => {
-            failed(rt.stderr(), name, error);
+            failed(report, name, error);
             None
         }
     }
@@ -126,25 +192,28 @@ pub enum Input {
 }
 
 // Reads once. A read that fails is reported under the name of the input.
-pub fn read<R: Read>(err: Stderr, input: &mut R, name: &[u8], chunk: &mut [u8]) -> Input
-    ensures { Within result chunk.new }
+pub fn read<R: Read>(report: &mut Report, input: &mut R, name: &[u8], chunk: &mut [u8]) -> Input
+    ensures within { Within result chunk.new }
+    ensures outcome { is_done report.new.outcome ≡ (is_done report.old.outcome && is_read result) }
+    ensures taken { Taken (R.remaining input.old) (R.remaining input.new) result chunk.new }
 {
     match input.read(chunk) {
         Ok(n) => Input::Bytes(n),
         Err(error) => {
-            failed(err, name, error);
+            failed(report, name, error);
             Input::Failed
         }
     }
 }
 
 // Reads until the buffer is full or the input ends.
-pub fn fill<R: Read>(err: Stderr, input: &mut R, name: &[u8], chunk: &mut [u8]) -> Input
-    ensures { Within result chunk.new }
+pub fn fill<R: Read>(report: &mut Report, input: &mut R, name: &[u8], chunk: &mut [u8]) -> Input
+    ensures within { Within result chunk.new }
+    ensures outcome { is_done report.new.outcome ≡ (is_done report.old.outcome && is_read result) }
 {
     let mut done: usize = 0;
     while done < chunk.len() {
-        let Input::Bytes(n) = read(err, input, name, &mut chunk[done..]) else {
+        let Input::Bytes(n) = read(report, input, name, &mut chunk[done..]) else {
             return Input::Failed;
         };
         if n == 0 {
@@ -156,21 +225,24 @@ pub fn fill<R: Read>(err: Stderr, input: &mut R, name: &[u8], chunk: &mut [u8]) 
 }
 
 // Writes bytes to standard output, or to any other writer. A write that fails is reported. Nothing is known of what the system answers.
-pub fn write<W: Write>(err: Stderr, output: &mut W, bytes: &[u8]) -> bool
-    ensures { OnTrue result (Appends (W.contents output.old) (W.contents output.new) bytes.now) }
+pub fn write<W: Write>(report: &mut Report, output: &mut W, bytes: &[u8]) -> bool
+    ensures outcome { is_done report.new.outcome ≡ (is_done report.old.outcome && result) }
+    ensures written { OnTrue result (Appends (W.contents output.old) (W.contents output.new) bytes.now) }
 {
     match output.write_all(bytes) {
         Ok(()) => true,
         Err(error) => {
-            failed(err, b"standard output", error);
+            unwritten(report, error);
             false
         }
     }
 }
 
 // Writes the name of an input as a line.
-fn write_name<W: Write>(err: Stderr, output: &mut W, name: &[u8]) -> bool {
-    write(err, output, name) && write(err, output, b"\n")
+fn write_name<W: Write>(report: &mut Report, output: &mut W, name: &[u8]) -> bool
+    ensures { is_done report.new.outcome ≡ (is_done report.old.outcome && result) }
+{
+    write(report, output, name) && write(report, output, b"\n")
 }
 
 // A session, and how many bytes of a chunk it has used.
@@ -183,33 +255,34 @@ pub struct Turned {
 // Writes the records of a piece of a chunk. The session before it, and what was left of the chunk, are there for the contract: they
 // say which bytes these are.
 fn write_records<W: Write>(
-    err: Stderr,
+    report: &mut Report,
     output: &mut W,
     before: Session,
     rest: &[u8],
     records: &[u8],
 ) -> bool
     requires { records.now ≡ (fed (progress_of before) rest.now 65536).text }
-    ensures { OnTrue result (Appends (W.contents output.old) (W.contents output.new)
+    ensures outcome { is_done report.new.outcome ≡ (is_done report.old.outcome && result) }
+    ensures written { OnTrue result (Appends (W.contents output.old) (W.contents output.new)
         (fed (progress_of before) rest.now 65536).text) }
 {
-    write(err, output, records)
+    write(report, output, records)
 }
 
 // Writes the last record. The session is there for the contract.
-fn write_last<W: Write>(err: Stderr, output: &mut W, before: Session, last: &[u8]) -> bool
+fn write_last<W: Write>(report: &mut Report, output: &mut W, before: Session, last: &[u8]) -> bool
     requires { last.now ≡ last_text (progress_of before) }
-    ensures { OnTrue result (Appends (W.contents output.old) (W.contents output.new)
+    ensures outcome { is_done report.new.outcome ≡ (is_done report.old.outcome && result) }
+    ensures written { OnTrue result (Appends (W.contents output.old) (W.contents output.new)
         (last_text (progress_of before))) }
 {
-    write(err, output, last)
+    write(report, output, last)
 }
 
 // Feeds a chunk and writes its records, as many at a time as have room. If a write fails, the piece whose records
-// were not written does not count as used, nor does what follows it; else all of the chunk is used. That nothing else ends the loop
-// is in the code only, since nothing is known of what a write answers.
+// were not written does not count as used, nor does what follows it; else all of the chunk is used.
 pub fn turn<W: Write>(
-    err: Stderr,
+    report: &mut Report,
     output: &mut W,
     start: Session,
     chunk: &[u8],
@@ -218,6 +291,8 @@ pub fn turn<W: Write>(
     ensures used { result.used ≤ length chunk.now }
     ensures session { progress_of result.session
         ≡ (consumed (progress_of start) (take result.used chunk.now)).progress }
+    ensures outcome { is_done report.new.outcome
+        ≡ (is_done report.old.outcome && (result.used == length chunk.now)) }
     ensures written { result.used ≡ length chunk.now → Appends (W.contents output.old) (W.contents output.new)
         (consumed (progress_of start) chunk.now).text }
 {
@@ -228,7 +303,7 @@ pub fn turn<W: Write>(
         let rest = &chunk[from..];
         let fed = session::feed(s, rest, records);
         let wrote = fed.wrote;
-        if !write_records(err, output, s, rest, &records[..wrote]) {
+        if !write_records(report, output, s, rest, &records[..wrote]) {
             break;
         }
         from += fed.used;
@@ -250,48 +325,49 @@ pub fn goes_on(after: Turned, size: usize) -> bool
     (after.used == size) & !session::stopped(session)
 }
 
-// The input has ended: writes the record of a last line that lacks its line feed, or of an empty input. Answers whether the write was done.
-pub fn close<W: Write>(err: Stderr, output: &mut W, current: Session) -> bool
-    ensures { OnTrue result (Appends (W.contents output.old) (W.contents output.new) (last_text (progress_of current))) }
+// The input has ended: writes the record of a last line that lacks its line feed, or of an empty input.
+pub fn close<W: Write>(report: &mut Report, output: &mut W, current: Session)
+    ensures earlier { IsTrue (is_done report.new.outcome) → IsTrue (is_done report.old.outcome) }
+    ensures written { IsTrue (is_done report.new.outcome) → Appends (W.contents output.old) (W.contents output.new)
+        (last_text (progress_of current)) }
 {
     let mut last = [0u8; session::LONGEST_RECORD];
     let ended = session::finish(current, &mut last);
     let wrote = ended.wrote;
-    write_last(err, output, current, &last[..wrote])
+    write_last(report, output, current, &last[..wrote]);
 }
 
 // Reads a script, or what is left of it, to its end, feeds it to a session and writes its listing. A read or a write that fails is reported,
-// and ends it; the answer is whether none did. A first line that is refused gets a hint. A proved loop has to end, and nothing says that an
-// input does: so it counts up to a number that no run uses up. It has no contract: which bytes a read puts into the buffer is open. `turn`,
-// `goes_on` and `close` say what becomes of them.
+// and ends it. A first line that is refused gets a hint. A proved loop has to end, and nothing says that an input does: so it counts up to a
+// number that no run uses up.
 pub fn run<R: Read, W: Write>(
-    err: Stderr,
+    report: &mut Report,
     input: &mut R,
     output: &mut W,
     name: &[u8],
     start: Session,
-) -> bool {
+) {
     let mut out = buffer();
     let mut chunk = buffer();
     let mut s = start;
     for _ in 0..u64::MAX {
-        let Input::Bytes(n) = read(err, input, name, &mut chunk) else {
-            return false;
+        let Input::Bytes(n) = read(report, input, name, &mut chunk) else {
+            return;
         };
         if n == 0 {
             break;
         }
         let script = &chunk[..n];
-        let after = turn(err, output, s, script, &mut out);
+        let after = turn(report, output, s, script, &mut out);
         let next = after.session;
         if !goes_on(after, n) {
-            hint(err, name, s, next, script);
-            return after.used == n;
+            hint(report.err, name, s, next, script);
+            return;
         }
         s = next;
     }
-    hint_end(err, name, s);
-    close(err, output, s)
+    hint_end(report.err, name, s);
+    close(report, output, s);
 }
 
 // Is there an argument of that number? The first is number 1.
@@ -313,44 +389,38 @@ fn argument(rt: &HostRuntime, number: usize, name: &mut [u8]) -> Option<usize>
 }
 
 // Runs a program on an input that is named.
-fn on_named<F: Fn(&mut Source, &[u8]) -> bool>(
+fn run_on_named<F: Fn(&mut Report, &mut Source, &[u8])>(
     rt: &HostRuntime,
+    report: &mut Report,
     program: &F,
     name: &[u8],
     shown: bool,
-) -> bool
+)
     requires { F.IsAlwaysCallable program.now }
 {
-    let Some(mut input) = open_named(rt, name, shown) else {
-        return false;
-    };
-    let done = program(&mut input, name);
-    close_named(input);
-    done
+    if let Some(mut input) = open_named(rt, report, name, shown) {
+        program(report, &mut input, name);
+        close_named(input);
+    }
 }
 
 // Runs a program on standard input, or on each of the files that the arguments name, from two files on under the file's name; the name -
-// stands for standard input. The program answers whether nothing failed. After a failure the next file has its turn, and in the end the
-// status is 1.
-pub fn run_on_each<F: Fn(&mut Source, &[u8]) -> bool>(rt: &HostRuntime, program: F) -> ExitCode
+// stands for standard input. After a failure the next file has its turn.
+pub fn run_on_each<F: Fn(&mut Report, &mut Source, &[u8])>(rt: &HostRuntime, program: F) -> ExitCode
     requires { F.IsAlwaysCallable program }
 {
-    let mut name = name_buffer();
-    let mut done = true;
+    let mut report = report_to(rt.stderr());
     if !has_argument(rt, 1) {
         let mut input = Source::Standard(rt.stdin());
-        done = program(&mut input, b"standard input");
+        program(&mut report, &mut input, b"standard input");
     }
     let shown = has_argument(rt, 2);
+    let mut name = name_buffer();
     for number in 1..usize::MAX {
         let Some(size) = argument(rt, number, &mut name) else {
             break;
         };
-        done &= on_named(rt, &program, &name[..size], shown);
+        run_on_named(rt, &mut report, &program, &name[..size], shown);
     }
-    if done {
-        ExitCode::SUCCESS
-    } else {
-        ExitCode::FAILURE
-    }
+    status(report)
 }

@@ -4,46 +4,53 @@
 // `shell` say what becomes of it.
 #![tactic(auto)]
 
-ghost use Rattle.std.specs.Prelude.{◌≡◌, ◌≤◌, length, take};
+ghost use Rattle.std.specs.Prelude.{◌≡◌, ◌≤◌, ◌==◌, ◌&&◌, length, take, IsTrue};
 ghost use Rattle.std.specs.Bool.{OnTrue};
 ghost use Rattle.std.specs.Io.KnownBytes.{Appends};
 ghost use Rattle.reasoned.specs.ReasonedSession.{last_told, told};
 ghost use Rattle.session.specs.Session.{consumed, progress_of};
+ghost use Rattle.shell.specs.Report.{is_done};
 
 use reason::LONGEST_REASONED;
 use session::Session;
-use shell::{Input, Turned};
-use std::io::{Read, Stderr, Write};
+use shell::{Input, Report, Turned};
+use std::io::{Read, Write};
 use std::process::ExitCode;
 
 // Writes the text of a piece of a chunk. The session before it and the piece are there for the contract: they say which bytes these are.
 fn write_text<W: Write>(
-    err: Stderr,
+    report: &mut Report,
     output: &mut W,
     before: Session,
     piece: &[u8],
     text: &[u8],
 ) -> bool
     requires { text.now ≡ told (progress_of before) piece.now }
-    ensures { OnTrue result (Appends (W.contents output.old) (W.contents output.new) (told (progress_of before) piece.now)) }
+    ensures outcome { is_done report.new.outcome ≡ (is_done report.old.outcome && result) }
+    ensures written { OnTrue result (Appends (W.contents output.old) (W.contents output.new)
+        (told (progress_of before) piece.now)) }
 {
-    shell::write(err, output, text)
+    shell::write(report, output, text)
 }
 
 // Writes the last line. The session is there for the contract.
-fn write_last<W: Write>(err: Stderr, output: &mut W, before: Session, last: &[u8]) -> bool
+fn write_last<W: Write>(report: &mut Report, output: &mut W, before: Session, last: &[u8]) -> bool
     requires { last.now ≡ last_told (progress_of before) }
-    ensures { OnTrue result (Appends (W.contents output.old) (W.contents output.new) (last_told (progress_of before))) }
+    ensures outcome { is_done report.new.outcome ≡ (is_done report.old.outcome && result) }
+    ensures written { OnTrue result (Appends (W.contents output.old) (W.contents output.new)
+        (last_told (progress_of before))) }
 {
-    shell::write(err, output, last)
+    shell::write(report, output, last)
 }
 
 // Feeds a chunk line by line, and writes each with its reason. Where a write fails, the line that was not written does not count as used,
 // nor does what follows it; else all of the chunk is used.
-fn turn<W: Write>(err: Stderr, output: &mut W, start: Session, chunk: &[u8]) -> Turned
+fn turn<W: Write>(report: &mut Report, output: &mut W, start: Session, chunk: &[u8]) -> Turned
     ensures used { result.used ≤ length chunk.now }
     ensures session { progress_of result.session
         ≡ (consumed (progress_of start) (take result.used chunk.now)).progress }
+    ensures outcome { is_done report.new.outcome
+        ≡ (is_done report.old.outcome && (result.used == length chunk.now)) }
     ensures written { result.used ≡ length chunk.now → Appends (W.contents output.old) (W.contents output.new)
         (told (progress_of start) chunk.now) }
 {
@@ -55,7 +62,7 @@ fn turn<W: Write>(err: Stderr, output: &mut W, start: Session, chunk: &[u8]) -> 
         let fed = reasoned::feed_line(s, rest, &mut line);
         let used = fed.used;
         let wrote = fed.wrote;
-        if !write_text(err, output, s, &rest[..used], &line[..wrote]) {
+        if !write_text(report, output, s, &rest[..used], &line[..wrote]) {
             break;
         }
         from += used;
@@ -68,43 +75,44 @@ fn turn<W: Write>(err: Stderr, output: &mut W, start: Session, chunk: &[u8]) -> 
     }
 }
 
-// The input has ended: writes the line of a last line that lacks its line feed, or of an empty input. Answers whether the write was done.
-fn close<W: Write>(err: Stderr, output: &mut W, current: Session) -> bool
-    ensures { OnTrue result (Appends (W.contents output.old) (W.contents output.new) (last_told (progress_of current))) }
+// The input has ended: writes the line of a last line that lacks its line feed, or of an empty input.
+fn close<W: Write>(report: &mut Report, output: &mut W, current: Session)
+    ensures earlier { IsTrue (is_done report.new.outcome) → IsTrue (is_done report.old.outcome) }
+    ensures written { IsTrue (is_done report.new.outcome) → Appends (W.contents output.old) (W.contents output.new)
+        (last_told (progress_of current)) }
 {
     let mut last = [0u8; LONGEST_REASONED];
     let wrote = reasoned::finish(current, &mut last);
-    write_last(err, output, current, &last[..wrote])
+    write_last(report, output, current, &last[..wrote]);
 }
 
-// Reads a script to its end and writes its listing with reasons. The answer, failures and hints are those of `shell::run`, whose shape this
-// has.
-fn run<R: Read, W: Write>(err: Stderr, input: &mut R, output: &mut W, name: &[u8]) -> bool {
+// Reads a script to its end and writes its listing with reasons. Failures and hints are those of `shell::run`, whose shape this has.
+fn run<R: Read, W: Write>(report: &mut Report, input: &mut R, output: &mut W, name: &[u8]) {
     let mut chunk = shell::buffer();
     let mut s = session::fresh();
     for _ in 0..u64::MAX {
-        let Input::Bytes(n) = shell::read(err, input, name, &mut chunk) else {
-            return false;
+        let Input::Bytes(n) = shell::read(report, input, name, &mut chunk) else {
+            return;
         };
         if n == 0 {
             break;
         }
         let script = &chunk[..n];
-        let after = turn(err, output, s, script);
+        let after = turn(report, output, s, script);
         let next = after.session;
         if !shell::goes_on(after, n) {
-            shell::hint(err, name, s, next, script);
-            return after.used == n;
+            shell::hint(report.err, name, s, next, script);
+            return;
         }
         s = next;
     }
-    shell::hint_end(err, name, s);
-    close(err, output, s)
+    shell::hint_end(report.err, name, s);
+    close(report, output, s);
 }
 
 fn main(rt: HostRuntime) -> ExitCode {
     shell::run_on_each(
         &rt,
-        |input, name| run(rt.stderr(), input, &mut rt.stdout(), name),
+        |report, input, name| run(report, input, &mut rt.stdout(), name),
     )
 }

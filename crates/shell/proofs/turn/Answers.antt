@@ -1,5 +1,5 @@
 -- `turn` hands over the records that `feed` has put at the start of the buffer.
-use Rattle.std.proofs.Common.{◌≡◌, ◌+◌, ◌<◌, ◌≤◌, ℕ, length, sym, subst, ap, ◌∙◌, arith}
+use Rattle.std.proofs.Common.{rules, ◌≡◌, ◌+◌, ◌<◌, ◌≤◌, ℕ, length, sym, subst, ap, ◌∙◌, arith}
 use Rattle.std.specs.Io.KnownBytes.{Appends}
 use Rattle.session.proofs.Callers.{front, moves, reached-session}
 use Rattle.session.specs.Session.{fed, progress_of}
@@ -30,9 +30,10 @@ loop-from-preserved g c =
     let room = length at.records in
     let contents = g.W.Write.contents in
     let writes : Appends (contents at.output) (contents c.write_records.new.output) (fed (progress_of at.s) (left chunk at.from) room).text =
-    subst (λ (n : ℕ). Appends (contents at.output) (contents c.write_records.new.output) (fed (progress_of at.s) (left chunk at.from) n).text) at.invariant.0 c.if-not-write_records.ensures in (
+    subst (λ (n : ℕ). Appends (contents at.output) (contents c.write_records.new.output) (fed (progress_of at.s) (left chunk at.from) n).text) at.invariant.0 c.if-not-write_records.ensures.written in (
       omega (arith, at.invariant.0, c.feed-fed.auto.out),
       used-more chunk at.from c.feed-fed.result.used room _ _ at.invariant.1 e.used e.bounds.used-within (omega (arith, at.invariant.0)) c.loop-from-test.true e.session writes,
+      search rules,
     )
 
 pub returns-after-loop-from-clause-session : goal.returns-after-loop-from-clause-session
