@@ -42,17 +42,17 @@ line-at-most number answer value level =
 
 -- A text was written into a buffer from a place on: the place after it, and the buffer then.
 abbrev pub Written : List ℕ → ℕ → List ℕ → ℕ → List ℕ → Type 0
-Written buffer at text after out = (after ≡ at + length text) × (out ≡ sets buffer at text)
+Written buffer at text after out = record { value : after ≡ at + length text; out_after : out ≡ sets buffer at text }
 
 -- The buffer is as long as before.
 pub written-length : (buffer : List ℕ) (at : ℕ) (text : List ℕ) {after : ℕ} {out : List ℕ} → Written buffer at text after out
     → length out ≡ length buffer
-written-length buffer at text w = ap length w.1 ∙ length-sets buffer at text
+written-length buffer at text w = ap length w.out_after ∙ length-sets buffer at text
 
 -- Another text was written after it.
 pub written_next : (buffer : List ℕ) (at : ℕ) (text next : List ℕ) {after end : ℕ} {out last : List ℕ} → Written buffer at text after out
     → Written out after next end last → Written buffer at (text ++ next) end last
-written_next buffer at text next w v = (
-  omega (arith, w.0, v.0, length-append text next),
-  v.1 ∙ rw (w.1, w.0) (sets-append text buffer at next),
-)
+written_next buffer at text next w v = record {
+  value = omega (arith, w.value, v.value, length-append text next);
+  out_after = v.out_after ∙ rw (w.out_after, w.value) (sets-append text buffer at next);
+}

@@ -88,31 +88,30 @@ lines-within p (line ∷ more) rest room =
 -- A feeding of the whole chunk into the whole buffer, with what a caller needs to take parts.
 pub fed-whole : (p : Progress) (chunk out : List ℕ) (r : Fed) (out' : List ℕ) → FedFrom 0 0 (fed p chunk (length out - 0)) r out out'
     → let f = fed p chunk (length out) in
-    (progress_of r.session ≡ f.progress)
-    × ((r.used ≡ f.used) × ((r.wrote ≡ length f.text) × ((out' ≡ sets out 0 f.text) × Bounds r.used r.wrote chunk out')))
+    record {
+      session : progress_of r.session ≡ f.progress;
+      used : r.used ≡ f.used;
+      wrote : r.wrote ≡ length f.text;
+      out : out' ≡ sets out 0 f.text;
+      bounds : Bounds r.used r.wrote chunk out';
+    }
 unfolding fed
 fed-whole p chunk out r out' v =
     let room : length out - 0 ≡ length out = sub-zero (length out) in
     let w : FedFrom 0 0 (fed p chunk (length out)) r out out' = rw room at v in
     let f = fed p chunk (length out) in
     let b = lines-within p (lines_in chunk).complete (lines_in chunk).rest (length out) in
-    let within : r.wrote ≤ length out' = omega (arith, w.wrote, ap length w.written, length-sets out 0 f.text, b.1) in (
-      w.progress,
-      (
-        w.used ∙ zero-add f.used,
-        (
-          w.wrote ∙ zero-add (length f.text),
-          (
-            w.written,
-            record {
-              used-within = omega (arith, w.used, b.0, ap length (lines-joined chunk));
-              wrote-within = within;
-              wrote-taken = sym (length-take-le r.wrote out' within);
-            },
-          ),
-        ),
-      ),
-    )
+    let within : r.wrote ≤ length out' = omega (arith, w.wrote, ap length w.written, length-sets out 0 f.text, b.1) in record {
+      session = w.progress;
+      used = w.used ∙ zero-add f.used;
+      wrote = w.wrote ∙ zero-add (length f.text);
+      out = w.written;
+      bounds = record {
+        used-within = omega (arith, w.used, b.0, ap length (lines-joined chunk));
+        wrote-within = within;
+        wrote-taken = sym (length-take-le r.wrote out' within);
+      };
+    }
 
 -- A feeding, and what an earlier one used and wrote before it.
 abbrev pub after : ℕ → List ℕ → Feeding → Feeding

@@ -127,21 +127,24 @@ packed-split (suc width) more (suc total) word e =
 -- A line number was written: its digits before the last with more bytes, the last, and a tab.
 pub number-ahead : (out : List ℕ) (at width word last n : ℕ) → width ≤ 8
     → (n < 1000000000) × (packed width word ≡ leading (n / 10) []) × (last ≡ last_byte n)
-    → (at + width + 2 ≡ at + length (cell n tab)) × Ahead out at (cell n tab) (set (set (sets out at (packed 8 word)) (at + width) last) (at + width + 1) tab)
+    → record {
+      value : at + width + 2 ≡ at + length (cell n tab);
+      ahead : Ahead out at (cell n tab) (set (set (sets out at (packed 8 word)) (at + width) last) (at + width + 1) tab);
+    }
 number-ahead out at width word last n few (small, digits, final) =
     let text : cell n tab ≡ packed width word ++ last ∷ tab ∷ [] = rw (digits, final) (number-cell n (omega arith)) in
     let size : length (cell n tab) ≡ width + 2 = ap length text ∙ length-append (packed width word) (last ∷ tab ∷ []) ∙ omega (arith, packed-length width word) in
-    let (under, whole, left) = packed-split width (8 - width) 8 word (omega arith) in (
-      omega (arith, size),
-      record {
+    let (under, whole, left) = packed-split width (8 - width) 8 word (omega arith) in record {
+      value = omega (arith, size);
+      ahead = record {
         size = simp (length-set, length-sets);
         ahead = λ more long.
             let end : at + length (cell n tab) ≡ suc (suc (at + width)) = omega (arith, size) in
             let front : at + width ≡ at + length (packed width word) = omega (arith, packed-length width word) in
             rw (end, add-one (at + width), text, append_assoc, whole, front)
             (covered out at (packed width word) under (last ∷ tab ∷ more) (omega (arith, left)));
-      },
-    )
+      };
+    }
 
 -- What a line number says of its own number.
 pub own-number : {line : LineNumber} {n : ℕ} → Numbered line n → Numbered line line.number

@@ -78,7 +78,7 @@ module _ (c : Setup) (g : Place → ℕ) (out₀ : List ℕ) (start : ℕ) where
     walk = places-walk c;
     run = places-run c few;
     whole = refl;
-    wrote = (omega arith, refl);
+    wrote = record { value = omega arith; out_after = refl };
   }
 
   -- The record that is due.
@@ -104,7 +104,7 @@ module _ (c : Setup) (g : Place → ℕ) (out₀ : List ℕ) (start : ℕ) where
             holds = rw same at r.1;
             room = λ h. omega (
               arith,
-              l.wrote.0,
+              l.wrote.value,
               written-length out₀ start l.done l.wrote,
               ap length whole,
               length-append l.done (record_text p (g p) ++ text_at g ps),

@@ -36,4 +36,4 @@ first-room out at a b h = omega (arith, length-append a b)
 
 pub second-room : (out : List ℕ) (at : ℕ) (a b : List ℕ) {after : ℕ} {last : List ℕ} → at + length (a ++ b) ≤ length out
     → Written out at a after last → after + length b ≤ length last
-second-room out at a b h w = omega (arith, length-append a b, w.0, written-length out at a w)
+second-room out at a b h w = omega (arith, length-append a b, w.value, written-length out at a w)

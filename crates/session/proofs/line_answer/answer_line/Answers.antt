@@ -1,0 +1,20 @@
+-- `session::line_answer::answer_line` meets its contract: the line says an event, or is malformed. Assumes nothing.
+use Rattle.session.proofs.Ending.{told-malformed}
+use Rattle.state.specs.Lent.{lent}
+use Rattle.std.proofs.Common.{sym, ◌∙◌}
+use Rattle.session.proofs.line_answer.answer_line.Goals as goal
+
+pub returns-in-Event : goal.returns-in-Event
+returns-in-Event c =
+    rw (sym c.parse-parsed.ensures ∙ c.in-Event.is)
+    c.answer_event.ensures
+
+pub returns-in-Malformed : goal.returns-in-Malformed
+returns-in-Malformed c =
+    let a = c.args in
+    let told = told-malformed (lent a.setup a.levels.now a.masks.now a.vps.now a.words.now) _ _
+    (sym c.parse-parsed.ensures ∙ c.in-Malformed.is) in
+    record { next = told.0; kept = c.requires; shown = c.show.ensures ∙ told.1 }
+
+pub answer_event-requires : goal.answer_event-requires
+answer_event-requires c = c.requires

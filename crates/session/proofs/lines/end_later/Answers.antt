@@ -1,0 +1,44 @@
+-- `session::lines::end_later` meets its contract: the line is answered in the state of the session. Assumes nothing.
+use Rattle.std.proofs.Common.{ℕ, List, length, take, sym, ap, ◌∙◌, zero-add, arith, length-take-le}
+use Rattle.chunk.proofs.ChunkLines.{held-taken, held-within}
+use Rattle.session.proofs.Ending.{ended_by, words_back}
+use Rattle.session.proofs.Numbering.{own-number}
+use Rattle.listing.specs.Answer.{shown_text}
+use Rattle.state.specs.Lent.{lent}
+use lib.Seq.{sets}
+use Rattle.session.proofs.lines.end_later.Goals as goal
+
+pub slice_bounds-well_formed-end : goal.slice_bounds-well_formed-end
+slice_bounds-well_formed-end c = sym (length-take-le _ _ (omega (arith, c.lent_words-lent.ensures)))
+
+pub slice_bounds-answer_line-end : goal.slice_bounds-answer_line-end
+slice_bounds-answer_line-end c = sym (length-take-le _ _ (omega (arith, c.lent_words-lent.ensures)))
+
+pub slice_bounds-line-end : goal.slice_bounds-line-end
+slice_bounds-line-end c = held-within c.args.start.line c.args.start.length _ c.held_length-size.ensures
+
+pub slice_bounds-answer_line-end-2 : goal.slice_bounds-answer_line-end-2
+slice_bounds-answer_line-end-2 c = sym (length-take-le _ _ (held-within c.args.start.line c.args.start.length _ c.held_length-size.ensures))
+
+pub write_record-wrote-requires : goal.write_record-wrote-requires
+write_record-wrote-requires c = record { longest_record_in_bounds = omega (arith, c.requires); numbered = own-number c.line_number.ensures }
+
+pub returns : goal.returns
+returns c =
+    let w = c.answer_line-shown in
+    let written = rw c.line_number.ensures.number at c.write_record-wrote.ensures in
+    let words = c.lent_words-lent in
+    let a = c.args in
+    let size = c.held_length-size in
+    let rows = c.records-vps in
+    let s = lent a.start.setup a.start.levels a.start.masks rows.result (take words.result a.start.words) in
+    let e = ended_by a.start.number s _ (take size.result a.start.line) _ w.ensures.next (ap (shown_text a.start.number) w.ensures.shown) in
+    rw (← words.ensures.number, ← rows.ensures, ← held-taken a.start.line a.start.length _ size.ensures)
+    (record {
+      progress =
+          c.after_line-session.ensures
+          ∙ rw (c.wrapping_add_u64-next.ensures.value, ← words.ensures.number, words_back a.start.words _ words.result (omega (arith, words.ensures)) w.auto.words)
+          e.0;
+      wrote = written.value ∙ zero-add _ ∙ ap length e.1;
+      written = written.out_after ∙ ap (λ (t : List ℕ). sets a.out.now 0 t) e.1;
+    })
