@@ -1,5 +1,5 @@
 -- `turn` hands over the records that `feed` has put at the start of the buffer.
-use Rattle.std.proofs.Common.{rules, ◌≡◌, ◌+◌, ◌<◌, ◌≤◌, ℕ, length, sym, subst, ap, ◌∙◌, arith}
+use Rattle.std.proofs.Common.{rules, ℕ, length, sym, subst, ap, ◌∙◌, arith}
 use Rattle.std.specs.Io.KnownBytes.{Appends}
 use Rattle.session.proofs.Callers.{front, moves, reached-session}
 use Rattle.session.specs.Session.{fed, progress_of}
