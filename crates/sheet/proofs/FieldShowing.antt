@@ -56,7 +56,7 @@ pub record Showing (buffer : List ℕ) (from : ℕ) (sheet out : List ℕ) (at s
   pub within : start ≤ length sheet
 
 pub none-shown : (buffer : List ℕ) (from : ℕ) (sheet : List ℕ) → Showing buffer from sheet buffer from 0
-none-shown buffer from sheet = record { text = []; written = (omega arith, refl); whole = refl; within = omega arith }
+none-shown buffer from sheet = record { text = []; written = record { value = omega arith; out_after = refl }; whole = refl; within = omega arith }
 
 module _ {buffer : List ℕ} {from : ℕ} {sheet out : List ℕ} {at start : ℕ} (w : Showing buffer from sheet out at start)
     (room : from + length (ended (fields sheet)) ≤ length buffer) (end : ℕ) (ends : end ≡ field_end sheet start) where
@@ -69,7 +69,7 @@ module _ {buffer : List ℕ} {from : ℕ} {sheet out : List ℕ} {at start : ℕ
   field_room =
       omega (
         arith,
-        w.written.0,
+        w.written.value,
         written-length buffer from w.text w.written,
         ap length w.whole,
         length-append w.text (ended (fields (drop start sheet))),

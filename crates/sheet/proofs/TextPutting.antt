@@ -21,26 +21,26 @@ copied buffer at text room part e =
 
 -- The place and the buffer after a text, as a function promises them.
 abbrev pub Put : List ℕ → ℕ → List ℕ → ℕ → List ℕ → Type 0
-Put buffer at text after last = (after ≡ after_text buffer at text) × (last ≡ with_text buffer at text)
+Put buffer at text after last = record { value : after ≡ after_text buffer at text; out_after : last ≡ with_text buffer at text }
 
 -- A text that has room is written, and what is written with room is promised so.
 pub put_written : (buffer : List ℕ) (at : ℕ) (text : List ℕ) {after : ℕ} {last : List ℕ} → at + length text ≤ length buffer
     → Put buffer at text after last → Written buffer at text after last
-put_written buffer at text room p = (p.0 ∙ after-room buffer at text room, p.1 ∙ with-room buffer at text room)
+put_written buffer at text room p = record { value = p.value ∙ after-room buffer at text room; out_after = p.out_after ∙ with-room buffer at text room }
 
 pub written-put : (buffer : List ℕ) (at : ℕ) (text : List ℕ) {after : ℕ} {last : List ℕ} → at + length text ≤ length buffer
     → Written buffer at text after last → Put buffer at text after last
-written-put buffer at text room w = (w.0 ∙ sym (after-room buffer at text room), w.1 ∙ sym (with-room buffer at text room))
+written-put buffer at text room w = record { value = w.value ∙ sym (after-room buffer at text room); out_after = w.out_after ∙ sym (with-room buffer at text room) }
 
 -- At the start of the buffer.
 abbrev pub Begun : List ℕ → List ℕ → ℕ → List ℕ → Type 0
-Begun buffer text after last = (after ≡ length text) × (last ≡ sets buffer 0 text)
+Begun buffer text after last = record { value : after ≡ length text; out_after : last ≡ sets buffer 0 text }
 
 pub written-begun : (buffer text : List ℕ) {after : ℕ} {last : List ℕ} → Written buffer 0 text after last → Begun buffer text after last
-written-begun buffer text w = (omega (arith, w.0), w.1)
+written-begun buffer text w = record { value = omega (arith, w.value); out_after = w.out_after }
 
 pub begun-written : (buffer text : List ℕ) {after : ℕ} {last : List ℕ} → Begun buffer text after last → Written buffer 0 text after last
-begun-written buffer text w = (omega (arith, w.0), w.1)
+begun-written buffer text w = record { value = omega (arith, w.value); out_after = w.out_after }
 
 pub put-start : (buffer text : List ℕ) {after : ℕ} {last : List ℕ} → length text ≤ length buffer
     → Put buffer 0 text after last → Begun buffer text after last
@@ -52,7 +52,7 @@ first-room out at a b h = omega (arith, length-append a b)
 
 pub second-room : (out : List ℕ) (at : ℕ) (a b : List ℕ) {after : ℕ} {last : List ℕ} → at + length (a ++ b) ≤ length out
     → Written out at a after last → after + length b ≤ length last
-second-room out at a b h w = omega (arith, length-append a b, w.0, written-length out at a w)
+second-room out at a b h w = omega (arith, length-append a b, w.value, written-length out at a w)
 
 -- A text at the start of a buffer, taken out again.
 pub taken_out : (buffer text : List ℕ) (n : ℕ) → n ≡ length text → n ≤ length buffer → take n (sets buffer 0 text) ≡ text

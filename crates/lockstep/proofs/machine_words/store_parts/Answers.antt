@@ -1,0 +1,24 @@
+-- `lockstep::machine_words::store_parts` meets its contract: the parts stand one behind the other. Assumes nothing.
+use mathlib.Core.List.{[]}
+use lib.ListN.{get_or}
+use Rattle.lockstep.proofs.StoredWords.{parts-stored}
+use borrow.Author.Rules.{rules}
+use Rattle.lockstep.proofs.machine_words.store_parts.Goals as goal
+
+pub returns : goal.returns
+returns c =
+    let a = c.args in
+    let fourth = c.store_record-4.ensures in
+    let third = c.store_record-3.ensures in
+    let second = c.store_record-2.ensures in
+    let first = c.store_record.ensures in
+    let rows = a.vps.now in record { stored = rw (fourth.stored, third.stored, second.stored, first.stored, c.store_words-2.ensures, c.store_words.ensures)
+          (parts-stored a.machine.now a.levels.now a.masks.now (get_or rows 0 []) (get_or rows 1 []) (get_or rows 2 []) (get_or rows 3 [])
+          (search rules) (search rules) first.size second.size third.size); sizes = record {
+        levels-length = search rules;
+        masks-length = search rules;
+        first-length = first.size;
+        second-length = second.size;
+        third-length = third.size;
+        fourth-length = fourth.size;
+      } }
