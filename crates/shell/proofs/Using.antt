@@ -1,5 +1,5 @@
 -- A chunk that is used piece by piece, and what is written of it. Assumes nothing.
-use Rattle.std.proofs.Common.{◌≡◌, ℕ, ◌+◌, ◌-◌, ◌<◌, ◌≤◌, List, [], ◌++◌, length, take, sym, ap, ◌∙◌, refl, append-nil, arith, take_all}
+use Rattle.std.proofs.Common.{◌≡◌, ℕ, ◌+◌, ◌-◌, ◌<◌, ◌≤◌, List, [], ◌++◌, length, take, sym, subst, ap, ◌∙◌, refl, append-nil, arith, take_all}
 use Rattle.std.specs.Prelude.{Option}
 use Rattle.std.proofs.KnownBytes.{Appends-nil, Appends-trans}
 use Rattle.std.specs.Io.KnownBytes.{Appends}
@@ -41,11 +41,24 @@ none : (q : Progress) → (consumed q []).text ≡ []
 unfolding consumed consumed_lines lines_in
 none q = refl
 
+-- The text that was written of what was used.
+used-text : {p q : Progress} {before after : Option (List ℕ)} (chunk : List ℕ) (from : ℕ) (w : Used p chunk from q before after)
+    → w.text ≡ (consumed p (take from chunk)).text
+used-text {p} {q} chunk from w =
+    sym (
+    ap (λ (l : List ℕ). (consumed p l).text) (sym (append-nil (take from chunk)))
+    ∙ ap (λ (e : Ended). e.text) (w.reached.then [])
+    ∙ ap (λ (l : List ℕ). w.text ++ l) (none q)
+    ∙ append-nil w.text
+    )
+
+pub used-reached : {p q : Progress} {before after : Option (List ℕ)} (chunk : List ℕ) (from : ℕ) → Used p chunk from q before after
+    → Reached p (take from chunk) (consumed p (take from chunk)).text q
+used-reached {p} {q} chunk from w = subst (λ (t : List ℕ). Reached p (take from chunk) t q) (used-text chunk from w) w.reached
+
 -- Where all of a chunk is used, all is written that is to be written of it.
 pub used-all : {p q : Progress} {before after : Option (List ℕ)} (chunk : List ℕ) (from : ℕ) → Used p chunk from q before after → from ≡ length chunk
     → Appends before after (consumed p chunk).text
 used-all {p} {q} {before} {after} chunk from w all =
-    let whole : take from chunk ++ [] ≡ chunk = append-nil (take from chunk) ∙ take_all from chunk (omega arith) in
-    let text : (consumed p chunk).text ≡ w.text =
-    ap (λ (l : List ℕ). (consumed p l).text) (sym whole) ∙ ap (λ (e : Ended). e.text) (w.reached.then []) ∙ ap (λ (l : List ℕ). w.text ++ l) (none q) ∙ append-nil w.text in
-    rw text w.written
+    let whole : take from chunk ≡ chunk = take_all from chunk (omega arith) in
+    subst (λ (l : List ℕ). Appends before after (consumed p l).text) whole (subst (λ (t : List ℕ). Appends before after t) (used-text chunk from w) w.written)

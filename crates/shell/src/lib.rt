@@ -6,7 +6,8 @@
 ghost use Rattle.std.specs.Prelude.{not, ◌&&◌, ◌≡◌, ◌≤◌, ◌==◌, eqb, length, take, IfSome, IsTrue, is_some};
 ghost use Rattle.std.specs.Bool.{IsFalse, OnTrue};
 ghost use Rattle.std.specs.Io.KnownBytes.{Appends};
-ghost use Rattle.session.specs.Session.{consumed, fed, is_stopped, last_text, progress_of};
+ghost use Rattle.session.specs.Calls.{Reached};
+ghost use Rattle.session.specs.Session.{consumed, fed, finished, is_stopped, last_text, progress_of};
 ghost use Rattle.shell.specs.Names.{Taken, Within, is_input};
 ghost use Rattle.shell.specs.Report.{is_done, is_read};
 
@@ -295,6 +296,8 @@ pub fn turn<W: Write>(
         ≡ (is_done report.old.outcome && (result.used == length chunk.now)) }
     ensures written { result.used ≡ length chunk.now → Appends (W.contents output.old) (W.contents output.new)
         (consumed (progress_of start) chunk.now).text }
+    ensures reached { Reached (progress_of start) (take result.used chunk.now)
+        (consumed (progress_of start) (take result.used chunk.now)).text (progress_of result.session) }
 {
     let records: &mut [u8] = out;
     let mut s = start;
@@ -339,23 +342,29 @@ pub fn close<W: Write>(report: &mut Report, output: &mut W, current: Session)
 
 // Reads a script, or what is left of it, to its end, feeds it to a session and writes its listing. A read or a write that fails is reported,
 // and ends it. A first line that is refused gets a hint. A proved loop has to end, and nothing says that an input does: so it counts up to a
-// number that no run uses up.
+// number that no run uses up. Where nothing failed, and the bytes of the input are known, all is written that is to be written of them.
 pub fn run<R: Read, W: Write>(
     report: &mut Report,
     input: &mut R,
     output: &mut W,
     name: &[u8],
     start: Session,
-) {
+)
+    ensures earlier { IsTrue (is_done report.new.outcome) → IsTrue (is_done report.old.outcome) }
+    ensures listed { IsTrue (is_done report.new.outcome) → IfSome (R.remaining input.old) (λ script.
+        Appends (W.contents output.old) (W.contents output.new) (finished (consumed (progress_of start) script))) }
+{
     let mut out = buffer();
     let mut chunk = buffer();
     let mut s = start;
-    for _ in 0..u64::MAX {
+    for _turn in 0..u64::MAX {
         let Input::Bytes(n) = read(report, input, name, &mut chunk) else {
             return;
         };
         if n == 0 {
-            break;
+            hint_end(report.err, name, s);
+            close(report, output, s);
+            return;
         }
         let script = &chunk[..n];
         let after = turn(report, output, s, script, &mut out);
@@ -366,8 +375,7 @@ pub fn run<R: Read, W: Write>(
         }
         s = next;
     }
-    hint_end(report.err, name, s);
-    close(report, output, s);
+    failed(report, name, io::Error::from(ErrorKind::FileTooLarge));
 }
 
 // Is there an argument of that number? The first is number 1.

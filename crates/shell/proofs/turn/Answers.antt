@@ -3,7 +3,7 @@ use Rattle.std.proofs.Common.{rules, ℕ, length, sym, subst, ap, ◌∙◌, ari
 use Rattle.std.specs.Io.KnownBytes.{Appends}
 use Rattle.session.proofs.Callers.{front, moves, reached-session}
 use Rattle.session.specs.Session.{fed, progress_of}
-use Rattle.shell.proofs.Using.{left, used-all, used-more}
+use Rattle.shell.proofs.Using.{left, used-all, used-more, used-reached}
 use Rattle.shell.proofs.turn.Goals as goal
 
 pub write_records-requires : goal.write_records-requires
@@ -44,3 +44,9 @@ returns-after-loop-from-clause-written g c = let at = c.loop-from in used-all c.
 
 pub returns-then-not-write_records-clause-session : goal.returns-then-not-write_records-clause-session
 returns-then-not-write_records-clause-session g c = let at = c.loop-from in reached-session at.s at.invariant.1.reached
+
+pub returns-after-loop-from-clause-reached : goal.returns-after-loop-from-clause-reached
+returns-after-loop-from-clause-reached g c = let at = c.loop-from in used-reached c.args.chunk.now at.from at.invariant.1
+
+pub returns-then-not-write_records-clause-reached : goal.returns-then-not-write_records-clause-reached
+returns-then-not-write_records-clause-reached g c = let at = c.loop-from in used-reached c.args.chunk.now at.from at.invariant.1
