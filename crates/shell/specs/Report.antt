@@ -1,5 +1,5 @@
 -- What is on record of the failures of a run. Assumes nothing.
-use Rattle.std.specs.Prelude.{Bool, true, false}
+use Rattle.std.specs.Prelude.{Bool, true, false, ℕ}
 use Rattle.shell.specs.declared.Input.{Input}
 use Rattle.shell.specs.declared.Input.TheVariants as input
 use Rattle.shell.specs.declared.Outcome.{Outcome}
@@ -15,3 +15,9 @@ is_done outcome.Unread = false
 abbrev pub is_read : Input → Bool
 is_read (input.Bytes n) = true
 is_read input.Failed = false
+
+-- The status of a program, which is 0 only where nothing failed.
+abbrev pub status_of : Outcome → ℕ
+status_of outcome.Done = 0
+status_of outcome.Failed = 1
+status_of outcome.Unread = 141

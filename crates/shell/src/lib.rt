@@ -6,10 +6,11 @@
 ghost use Rattle.std.specs.Prelude.{not, ◌&&◌, ◌≡◌, ◌≤◌, ◌==◌, eqb, length, take, IfSome, IsTrue, is_some};
 ghost use Rattle.std.specs.Bool.{IsFalse, OnTrue};
 ghost use Rattle.std.specs.Io.KnownBytes.{Appends};
+ghost use Rattle.std.specs.Process.{exit_status};
 ghost use Rattle.session.specs.Calls.{Reached};
 ghost use Rattle.session.specs.Session.{consumed, fed, finished, is_stopped, last_text, progress_of};
 ghost use Rattle.shell.specs.Names.{Taken, Within, is_input};
-ghost use Rattle.shell.specs.Report.{is_done, is_read};
+ghost use Rattle.shell.specs.Report.{is_done, is_read, status_of};
 
 use session::Session;
 use std::env::{Env, FillError};
@@ -123,10 +124,12 @@ fn unwritten(report: &mut Report, error: io::Error)
 }
 
 // The status of a program: 0, or 1 where something failed. Where nobody reads the output, it is that of a program that the signal for it ends.
-pub fn status(report: Report) -> ExitCode {
+pub fn status(report: Report) -> ExitCode
+    ensures { exit_status result ≡ status_of report.outcome }
+{
     match report.outcome {
-        Outcome::Done => ExitCode::SUCCESS,
-        Outcome::Failed => ExitCode::FAILURE,
+        Outcome::Done => ExitCode::from(0),
+        Outcome::Failed => ExitCode::from(1),
         Outcome::Unread => ExitCode::from(UNREAD),
     }
 }
