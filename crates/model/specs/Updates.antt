@@ -4,7 +4,7 @@ use Rattle.std.specs.Prelude.{Bool, true, cond, List, ℕ, zero, suc, ◌+◌, �
 use Rattle.word.specs.Field.{put}
 use Rattle.model.specs.Arrays.{number_at, stored}
 use Rattle.model.specs.Registers.{dr6, is_private}
-use Rattle.model.specs.State.{State, Context, Control, Machine, Partition, Shape, VirtualProcessor, LevelSet, Watch, level, level_set, shape, pages, partition, is_level, vp, context, lock_bit}
+use Rattle.model.specs.State.{State, Context, Control, Machine, Partition, Shape, VirtualProcessor, LevelSet, Watch, level, level_set, shape, partition, is_level, vp, context, lock_bit}
 
 -- A context with one field changed.
 abbrev pub with_registers : Context → List ℕ → Context

@@ -18,7 +18,7 @@ use Rattle.model.proofs.Four.{level-low}
 use Rattle.model.proofs.Keeps.{step_keeps}
 use Rattle.model.proofs.Steps.{step-hide, hide_outcome}
 use Rattle.model.proofs.Whole.{active-hide}
-use Rattle.listing.specs.Listing.{answered, later_records}
+use Rattle.listing.specs.Listing.{answered, later_records, number_after}
 use Rattle.model.specs.LevelColumn.{processor_of}
 use Rattle.records.specs.Values.{plain}
 use Rattle.records.proofs.SameBytes.{read_back}
@@ -32,7 +32,7 @@ use Rattle.passing.specs.PassingClaims.{Numbered, Passing, TwoParts, numbered, t
 pub numbered-records : Numbered
 unfolding later_records numbered told
 numbered-records number s [] = refl
-numbered-records number s (line ∷ more) = rw (numbered-records _ _ more)
+numbered-records number s (line ∷ more) = rw (numbered-records (number_after number) (answered s (line_event line)).next more)
 
 pub two-parts : (s : State) (one two : List (List ℕ)) → TwoParts s one two
 unfolding told later_state

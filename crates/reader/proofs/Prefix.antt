@@ -3,7 +3,7 @@ use mathlib.Core.Bool.{Bool, true, false, cond}
 use mathlib.Core.List.{List, [], ◌∷◌, ◌++◌, append_assoc}
 use mathlib.Core.Option.{Option, none, some}
 use mathlib.Core.Path.{◌≡◌, refl, sym, ap, ◌∙◌}
-use Prim.Native.Nat.{ℕ, ◌+◌, ◌≤◌}
+use Prim.Native.Nat.{ℕ, ◌≤◌}
 use native.Mathlib.Omega.{arith}
 use lib.ListN.{drop, length, length-append, take, take-append-drop}
 use lib.Seq.{drop_at, take-append-le, take_at}
@@ -45,6 +45,9 @@ pub record Begins (bytes front : List ℕ) : Type 0 where
 no_line : {A : Type 0} {l : List ℕ} {ls : List (List ℕ)} → [] ≡ l ∷ ls → A
 no_line h = absurd (let z : ◌≡◌ {A = ℕ} 0 1 = cc in omega arith)
 
+line-begins : (k l j front tail : List ℕ) → k ≡ l → j ≡ front ++ tail → k ++ line_feed ∷ j ≡ (l ++ line_feed ∷ front) ++ tail
+line-begins k l j front tail e f = rw (e, f) (sym (append_assoc l (line_feed ∷ front) tail))
+
 joined-begins : (ls complete : List (List ℕ)) (rest : List ℕ) (more : List (List ℕ)) → complete ++ last_line rest ≡ ls ++ more
     → length (ended ls) ≤ length (joined complete rest) → Begins (joined complete rest) (ended ls)
 unfolding joined ended
@@ -60,9 +63,7 @@ joined-begins (l ∷ ls) (k ∷ complete) rest more e h =
     (omega (arith, ap length same, length-append l (line_feed ∷ ended ls), length-append k (line_feed ∷ joined complete rest))) in
     record {
       tail = b.tail;
-      same =
-          ap (λ (j : List ℕ). k ++ line_feed ∷ j) b.same ∙ ap (λ (x : List ℕ). x ++ line_feed ∷ (ended ls ++ b.tail)) same
-          ∙ sym (append_assoc l (line_feed ∷ ended ls) b.tail);
+      same = line-begins k l (joined complete rest) (ended ls) b.tail same b.same;
     }
 
 pub begins : (bytes : List ℕ) (ls more : List (List ℕ)) → lines bytes ≡ ls ++ more → length (ended ls) ≤ length bytes → Begins bytes (ended ls)

@@ -16,7 +16,6 @@ use Rattle.model.specs.declared.machine.Setup.{Setup}
 use Rattle.model.specs.Fresh.{admissible}
 use Rattle.model.specs.Masks.{valid_mask}
 use Rattle.model.specs.State.{State, in_range, top}
-use Rattle.model.specs.WellFormed.{well_formed}
 use Rattle.model.proofs.Bools.{and_left, hold}
 use Rattle.script.specs.Records.{lines, lines_in}
 use Rattle.script.specs.declared.Start.{Start}
@@ -24,7 +23,7 @@ use Rattle.script.specs.declared.Start.TheVariants as start
 use Rattle.state.specs.Lent.{machine_of, setup_of}
 use Rattle.records.specs.declared.place.Place.{Place}
 use Rattle.records.specs.Places.{places}
-use Rattle.records.specs.Reading.{Passed, first_record, formed_only, from_first, passed_on}
+use Rattle.records.specs.Reading.{Passed, first_record, from_first, passed_on}
 use Rattle.records.specs.RecordTexts.{ended, lines_at, record_lines, records_text}
 use Rattle.records.specs.Values.{setup_at, value_at}
 use Rattle.records.proofs.SameBytes.{only-records}
@@ -35,15 +34,6 @@ use Rattle.reader.proofs.Cut.{lines_next, passes-both, passes-one}
 -- Nothing was accepted.
 pub refused-passed : (r : Received) (input : List ℕ) {w : Option Passed} → r.accepted ≡ false → w ≡ none → passed_in r input ≡ w
 refused-passed r input h e = rw h (sym e)
-
-pub refused-never : {A : Type 0} (r : Received) → r.accepted ≡ false → r.accepted ≡ true → A
-refused-never r h k = absurd (let t : true ≡ false = sym k ∙ h in let z : ◌≡◌ {A = ℕ} 0 1 = cc in omega arith)
-
-pub not-formed : {w : Option Passed} (s : State) (rest : List (List ℕ)) → w ≡ formed_only s rest → well_formed s ≡ false → w ≡ none
-not-formed s rest e h = e ∙ rw h
-
-pub formed : {w : Option Passed} (s : State) (rest : List (List ℕ)) → w ≡ formed_only s rest → well_formed s ≡ true → some (record { state = s; rest = rest }) ≡ w
-formed s rest e h = sym (e ∙ rw h)
 
 pub empty-none : (input : List ℕ) → length input ≡ 0 → passed_on (lines input) ≡ none
 unfolding passed_on lines lines_in

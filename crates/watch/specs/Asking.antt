@@ -1,5 +1,5 @@
 -- Whether a level asks to be told of an access to a register, read or written (02, request 6). Assumes nothing.
-use Rattle.std.specs.Prelude.{Bool, ℕ}
+use Rattle.std.specs.Prelude.{Bool}
 use Rattle.model.specs.declared.machine.Watch.{Watch}
 use Rattle.model.specs.Watching.{asks_read, asks_write}
 use Rattle.watch.specs.declared.asking.RegisterAccess.{RegisterAccess}

@@ -1,6 +1,5 @@
 -- `chunk::append` meets its contract. The loop's invariant is `Appending`, and the measure is what is left of `more`.
 -- Assumes nothing.
-use Prim.Native.Nat.{◌-◌}
 use borrow.Author.Rules.{rules}
 use Rattle.chunk.proofs.ChunkLines.{append-all, append-byte, append-full, append-start}
 use Rattle.chunk.proofs.append.Goals as goal

@@ -1,6 +1,5 @@
 -- `decimal::digit_count` meets its contract. The loop's invariant: `limit` is 10 to the power of `count`, and the number has at
 -- least `count` digits. The measure is how far `count` is from 20. Assumes nothing.
-use Prim.Native.Nat.{◌-◌}
 use mathlib.Core.Path.{refl}
 use native.Mathlib.Nat.{pow-le-pow_right, pow-suc}
 use native.Mathlib.Numerals.{add-one}

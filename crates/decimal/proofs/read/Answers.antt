@@ -1,6 +1,5 @@
 -- `decimal::read` meets its contract. The loop's invariant: what is left of the field, after the number so far, says what the
 -- field says. The measure is what is left of the length. Assumes nothing.
-use Prim.Native.Nat.{◌-◌}
 use mathlib.Core.Path.{sym, ◌∙◌}
 use borrow.Author.Rules.{rules}
 use native.Mathlib.Omega.{arith}

@@ -1,6 +1,5 @@
 -- `denial_of` meets its contract: each field is what a callee ensures. Assumes nothing.
 use mathlib.Core.Path.{sym, ◌∙◌}
-use borrow.Author.Tests.{not-false, not-true}
 use Rattle.explanation.specs.Explained.{denial_by}
 use Rattle.explanation.proofs.denial_of.Goals as goal
 

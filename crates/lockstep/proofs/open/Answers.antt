@@ -1,6 +1,6 @@
 -- `lockstep::open` meets its contract: by the number of words, what the line says, and whether that is admissible. Assumes nothing.
 use mathlib.Core.Path.{refl, sym, ◌∙◌}
-use borrow.Author.Tests.{le-ltb, lt-ltb, not-false, not-true}
+use borrow.Author.Tests.{le-ltb, lt-ltb}
 use Rattle.lockstep.specs.Lockstep.{opened}
 use borrow.Author.Rules.{rules}
 use Rattle.lockstep.proofs.open.Goals as goal

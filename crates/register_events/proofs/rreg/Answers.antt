@@ -1,8 +1,7 @@
 -- `rreg` meets its contract: the tests of its rule in their order, and then its effect. Assumes nothing.
 use mathlib.Core.Path.{◌≡◌, refl, sym, ap, ◌∙◌}
-use mathlib.Core.Logic.{⊎_elim}
 use mathlib.Core.Option.{some}
-use borrow.Author.Tests.{lt-ltb, le-ltb, not-false}
+use borrow.Author.Tests.{lt-ltb, le-ltb}
 use Rattle.model.specs.Answers.{first_of}
 use Rattle.model.specs.Watching.{asks_read, watcher}
 use Rattle.processor.proofs.RecordStores.{words-zero}
@@ -57,10 +56,9 @@ returns-then-receiver-lt-NO_LEVEL c s v h =
     let told : let a = c.args in let p = vp_of a.vp.now in c.if-not-none_watches.receiver.0 ≡ watcher a.shape p a.target.0 (asks_read a.register) = let a = c.args in
     let p = vp_of a.vp.now in
     elim c.if-not-none_watches.branch [
-      then-not-none_watches w ↦ ap (λ l. l.0) w.receiver-is ∙ w.read_watcher-receiver.ensures
+      | then-not-none_watches w ↦ ap (λ l. l.0) w.receiver-is ∙ w.read_watcher-receiver.ensures
       | else-not-none_watches w ↦ ap (λ l. l.0) w.receiver-is ∙ sym (none_told a.shape p a.target.0 (Read a.register) (words-zero _ (sym c.none_watches.ensures ∙ w.if-not-none_watches.false) a.shape))
     ] in
-   
     let a = c.args in
     record-entered s (rule_of s v a.mode (Rreg a.target a.register)) h {l = c.if-not-none_watches.receiver}
     (rw (the-maximum s h.shaped, the-actor h, the-enabled-on h, h.shaped, h.holds, le-ltb _ _ c.if-target-gt-HIGHEST_LEVEL.false, le-ltb _ _ c.if-register-gt-LAST_REGISTER.false, ← c.is_user.ensures, c.if-is_user.false, le-ltb _ _ c.if-shape-target.false, ← c.active_of-actor.ensures, le-ltb _ _ c.if-actor-target.false, ← c.enabled_at.ensures, c.if-not-enabled_at.false, ← told, lt-ltb _ _ c.if-receiver-lt-NO_LEVEL.true))
@@ -72,10 +70,9 @@ returns c s v h =
     let told : let a = c.args in let p = vp_of a.vp.now in c.if-not-none_watches.receiver.0 ≡ watcher a.shape p a.target.0 (asks_read a.register) = let a = c.args in
     let p = vp_of a.vp.now in
     elim c.if-not-none_watches.branch [
-      then-not-none_watches w ↦ ap (λ l. l.0) w.receiver-is ∙ w.read_watcher-receiver.ensures
+      | then-not-none_watches w ↦ ap (λ l. l.0) w.receiver-is ∙ w.read_watcher-receiver.ensures
       | else-not-none_watches w ↦ ap (λ l. l.0) w.receiver-is ∙ sym (none_told a.shape p a.target.0 (Read a.register) (words-zero _ (sym c.none_watches.ensures ∙ w.if-not-none_watches.false) a.shape))
     ] in
-   
     let a = c.args in
     record-read s (some v) (rule_of s v a.mode (Rreg a.target a.register)) h refl {x = c.register_of.result}
     (rw (the-maximum s h.shaped, the-actor h, the-enabled-on h, h.shaped, h.holds, le-ltb _ _ c.if-target-gt-HIGHEST_LEVEL.false, le-ltb _ _ c.if-register-gt-LAST_REGISTER.false, ← c.is_user.ensures, c.if-is_user.false, le-ltb _ _ c.if-shape-target.false, ← c.active_of-actor.ensures, le-ltb _ _ c.if-actor-target.false, ← c.enabled_at.ensures, c.if-not-enabled_at.false, ← told, le-ltb _ _ c.if-receiver-lt-NO_LEVEL.false, ← c.register_of.ensures))

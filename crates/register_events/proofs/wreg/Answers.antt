@@ -1,8 +1,7 @@
 -- `wreg` meets its contract: the tests of its rule in their order, and then its effect. Assumes nothing.
 use mathlib.Core.Path.{◌≡◌, refl, sym, ap, ◌∙◌}
-use mathlib.Core.Logic.{⊎_elim}
 use mathlib.Core.Option.{some}
-use borrow.Author.Tests.{lt-ltb, le-ltb, not-false}
+use borrow.Author.Tests.{lt-ltb, le-ltb}
 use Rattle.model.specs.Answers.{first_of}
 use Rattle.model.specs.Registers.{register_of}
 use Rattle.model.specs.Watching.{asks_write, watcher}
@@ -64,10 +63,9 @@ returns-then-receiver-lt-NO_LEVEL c s v h =
     let told : let a = c.args in let p = vp_of a.vp.now in c.if-not-none_watches.receiver.0 ≡ watcher a.shape p a.target.0 (asks_write a.register (register_of a.shape p a.target.0 a.register) a.value) = let a = c.args in
     let p = vp_of a.vp.now in
     elim c.if-not-none_watches.branch [
-      then-not-none_watches w ↦ ap (λ l. l.0) w.receiver-is ∙ w.write_watcher-receiver.ensures
+      | then-not-none_watches w ↦ ap (λ l. l.0) w.receiver-is ∙ w.write_watcher-receiver.ensures
       | else-not-none_watches w ↦ ap (λ l. l.0) w.receiver-is ∙ sym (none_told a.shape p a.target.0 (Write a.register (register_of a.shape p a.target.0 a.register) a.value) (words-zero _ (sym c.none_watches.ensures ∙ w.if-not-none_watches.false) a.shape))
     ] in
-   
     let a = c.args in
     record-entered s (rule_of s v a.mode (Wreg a.target a.register a.value)) h {l = c.if-not-none_watches.receiver}
     (rw (the-maximum s h.shaped, the-actor h, the-enabled-on h, h.shaped, h.holds, le-ltb _ _ c.if-target-gt-HIGHEST_LEVEL.false, le-ltb _ _ c.if-register-gt-LAST_REGISTER.false, ← c.has_bit-real.ensures, c.if-register-target.false, ← c.is_user.ensures, c.if-is_user.false, le-ltb _ _ c.if-shape-target.false, ← c.active_of-actor.ensures, le-ltb _ _ c.if-actor-target.false, ← c.enabled_at.ensures, c.if-not-enabled_at.false, ← told, lt-ltb _ _ c.if-receiver-lt-NO_LEVEL.true))
@@ -79,10 +77,9 @@ returns c s v h =
     let told : let a = c.args in let p = vp_of a.vp.now in c.if-not-none_watches.receiver.0 ≡ watcher a.shape p a.target.0 (asks_write a.register (register_of a.shape p a.target.0 a.register) a.value) = let a = c.args in
     let p = vp_of a.vp.now in
     elim c.if-not-none_watches.branch [
-      then-not-none_watches w ↦ ap (λ l. l.0) w.receiver-is ∙ w.write_watcher-receiver.ensures
+      | then-not-none_watches w ↦ ap (λ l. l.0) w.receiver-is ∙ w.write_watcher-receiver.ensures
       | else-not-none_watches w ↦ ap (λ l. l.0) w.receiver-is ∙ sym (none_told a.shape p a.target.0 (Write a.register (register_of a.shape p a.target.0 a.register) a.value) (words-zero _ (sym c.none_watches.ensures ∙ w.if-not-none_watches.false) a.shape))
     ] in
-   
     let a = c.args in
     record-changes s (some v) (rule_of s v a.mode (Wreg a.target a.register a.value)) h _ refl {x = 0}
     (rw (the-maximum s h.shaped, the-actor h, the-enabled-on h, h.shaped, h.holds, le-ltb _ _ c.if-target-gt-HIGHEST_LEVEL.false, le-ltb _ _ c.if-register-gt-LAST_REGISTER.false, ← c.has_bit-real.ensures, c.if-register-target.false, ← c.is_user.ensures, c.if-is_user.false, le-ltb _ _ c.if-shape-target.false, ← c.active_of-actor.ensures, le-ltb _ _ c.if-actor-target.false, ← c.enabled_at.ensures, c.if-not-enabled_at.false, ← told, le-ltb _ _ c.if-receiver-lt-NO_LEVEL.false))

@@ -1,7 +1,6 @@
 -- `script::parse` meets its contract: a line says what the word that it begins with and the row of its numbers say.
 -- Assumes nothing.
 use mathlib.Core.Path.{◌≡◌, refl, sym, ap, ◌∙◌}
-use borrow.Author.Tests.{not-false, not-true}
 use native.Mathlib.Omega.{arith}
 use lib.ListN.{length}
 use Rattle.script.specs.EventForms.{events, line_event}
@@ -22,14 +21,12 @@ unfolding line_event
 returns-in_default c =
     let by_word : line_event c.args.line.now ≡ named_said c.word_of.result c.args.line.now = let line = c.args.line.now in
     line-said Event Malformed events line refl c.if-line-gt-LONGEST_LINE.false ∙ named-said words line ∙ ap (λ n. named_said n line) (sym c.word_of.ensures) in
-   
     let line = c.args.line.now in
     sym (by_word ∙ ap (λ n. named_said n line) c.in_default.is)
 
 pub numbers-requires : goal.numbers-requires
 numbers-requires c =
     let word-found : Found c.args.line.now c.in-As.word c.in-As.end c.in-As.takes = found words _ refl (sym c.word_of.ensures ∙ c.in-As.is) in
-   
     let f = word-found in
     record { from_in_bounds = omega (arith, f.ends, f.within); takes_bound = omega (arith, f.counts, f.few); values_value = refl }
 
@@ -44,7 +41,6 @@ returns-then-not-numbers c =
       rw (f.ends, f.counts) at c.numbers.ensures,
       sym (by_word ∙ ap (λ n. named_said n line) c.in-As.is),
     ) in
-   
     let (read, says) = said in
     let f = word-found in
     ap Malformed (c.refusal.ensures ∙ rw (f.ends, f.counts))
@@ -61,7 +57,6 @@ returns c =
       rw (f.ends, f.counts) at c.numbers.ensures,
       sym (by_word ∙ ap (λ n. named_said n line) c.in-As.is),
     ) in
-   
     let (read, says) = said in
     ap Event c.event.ensures
     ∙ row-said Event Malformed (form_of c.in-As.word) (word-found).few _ read (c.if-not-numbers.false) ∙ says

@@ -4,7 +4,6 @@ use mathlib.Core.Bool.{Bool, true}
 use mathlib.Core.List.{List, [], ◌∷◌}
 use mathlib.Core.Path.{◌≡◌, refl, sym, ap, ◌∙◌}
 use Prim.Native.Nat.{ℕ}
-use borrow.Author.Tests.{not-false, not-true}
 use lib.Dec.{eqb}
 use lib.ListN.{length}
 use native.Mathlib.Omega.{arith}
@@ -41,7 +40,6 @@ pub numbers-requires : goal.numbers-requires
 numbers-requires c =
     let line_of : List ℕ = c.args.line.now in
     let begins-vsm : begun (line_of) (bytes "vsm") ≡ true = sym c.begins.ensures ∙ c.if-not-begins.false in
-   
     record { from_in_bounds = omega (arith, begun-within _ _ (begins-vsm)); takes_bound = omega (arith, c.first_takes-takes.ensures, few-numbers (six_after (line_of))); values_value = refl }
 
 pub returns-then-not-numbers : goal.returns-then-not-numbers
@@ -52,7 +50,6 @@ returns-then-not-numbers c =
     let says : in_form First Malformed (first_form (six_after (line_of))) (fields_after (line_of) 3) ≡ line_first (line_of) = let line = line_of in
     ap (λ t. in_form First Malformed (first_form t) (fields_after line 3)) (sym (seventh-field line (begins-vsm)))
     ∙ sym (rw (begins-vsm) at (said-first (seventh line) line c.if-line-gt-LONGEST_LINE.false)) in
-   
     let counted = c.first_takes-takes.ensures in
     let six = six_after (line_of) in
     ap Malformed (rw counted at c.refusal.ensures)
@@ -66,7 +63,6 @@ returns c =
     let says : in_form First Malformed (first_form (six_after (line_of))) (fields_after (line_of) 3) ≡ line_first (line_of) = let line = line_of in
     ap (λ t. in_form First Malformed (first_form t) (fields_after line 3)) (sym (seventh-field line (begins-vsm)))
     ∙ sym (rw (begins-vsm) at (said-first (seventh line) line c.if-line-gt-LONGEST_LINE.false)) in
-   
     let six = six_after (line_of) in
     let held = rw c.first_takes-takes.ensures at c.numbers.ensures in
     let ok = c.if-not-numbers.false in

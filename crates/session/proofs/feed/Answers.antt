@@ -12,7 +12,6 @@ use Rattle.session.proofs.feed.Goals as goal
 pub returns-then-has_stopped : goal.returns-then-has_stopped
 returns-then-has_stopped c =
     let none-fed : let a = c.args in Feeds (progress_of a.start) a.chunk.now 0 a.out.now 0 a.out.now (progress_of a.start) 0 0 = let a = c.args in feeds-start (progress_of a.start) a.chunk.now 0 a.out.now 0 (omega arith) (omega arith) in
-   
     let s = c.args.start in
     fed-whole _ _ _ (record { session = s; used = length c.args.chunk.now; wrote = 0 }) _
     (feeds-stopped (none-fed) (stopped-in s.phase s.number (state_in s) (held s.line s.length) (sym c.has_stopped.ensures ∙ c.if-has_stopped.true)) _ refl refl refl)
@@ -28,7 +27,6 @@ returns-then-is_later-start c =
 pub returns-then-chunk-end : goal.returns-then-chunk-end
 returns-then-chunk-end c =
     let none-fed : let a = c.args in Feeds (progress_of a.start) a.chunk.now 0 a.out.now 0 a.out.now (progress_of a.start) 0 0 = let a = c.args in feeds-start (progress_of a.start) a.chunk.now 0 a.out.now 0 (omega arith) (omega arith) in
-   
     fed-whole _ _ _ (record { session = c.keep.result; used = c.line_end-end.result; wrote = 0 }) _
     (feeds-last (none-fed) c.line_end-end.result c.line_end-end.ensures c.if-chunk-end.true _ c.keep.ensures refl refl)
 
@@ -37,7 +35,6 @@ returns-then-out-lt-LONGEST_RECORD c =
     let none-fed : let a = c.args in Feeds (progress_of a.start) a.chunk.now 0 a.out.now 0 a.out.now (progress_of a.start) 0 0 = let a = c.args in feeds-start (progress_of a.start) a.chunk.now 0 a.out.now 0 (omega arith) (omega arith) in
     let roomy : room_for (progress_of c.args.start) ≡ 84 = let s = c.args.start in
     room_in s.phase s.number (state_in s) (held s.line s.length) (sym c.has_stopped.ensures ∙ c.if-has_stopped.false) in
-   
     fed-whole _ _ _ (record { session = c.args.start; used = 0; wrote = 0 }) _
     (feeds-full (none-fed) c.line_end-end.result c.line_end-end.ensures c.if-chunk-end.false (rw (roomy) (omega (arith, c.if-out-lt-LONGEST_RECORD.true))) _ refl refl refl)
 
@@ -59,7 +56,6 @@ returns-then-has_stopped-2 c =
     (e.progress ∙ ap (λ (x : Ended). x.progress) same)
     (e.wrote ∙ ap (λ (x : Ended). length x.text) same ∙ sym (zero-add _))
     (e.written ∙ ap (λ (x : Ended). sets a.out.now 0 x.text) same) in
-   
     let s = c.end_line-ended.result.session in
     fed-whole _ _ _ (record { session = s; used = length c.args.chunk.now; wrote = c.end_line-ended.result.wrote }) _
     (feeds-stopped (one-fed) (stopped-in s.phase s.number (state_in s) (held s.line s.length) (sym c.has_stopped-2.ensures ∙ c.if-has_stopped-2.true)) _ refl refl refl)
@@ -83,7 +79,6 @@ feed_later-requires-2 c =
     (e.progress ∙ ap (λ (x : Ended). x.progress) same)
     (e.wrote ∙ ap (λ (x : Ended). length x.text) same ∙ sym (zero-add _))
     (e.written ∙ ap (λ (x : Ended). sets a.out.now 0 x.text) same) in
-   
     let w = one-fed in
     record { from_in_bounds = w.place.1; at_in_bounds = omega (arith, w.wrote, feeds-size w) }
 
@@ -102,7 +97,6 @@ returns c =
     (e.progress ∙ ap (λ (x : Ended). x.progress) same)
     (e.wrote ∙ ap (λ (x : Ended). length x.text) same ∙ sym (zero-add _))
     (e.written ∙ ap (λ (x : Ended). sets a.out.now 0 x.text) same) in
-   
     let s = c.end_line-ended.result.session in
     fed-whole _ _ _ c.feed_later-2.result _
     (feeds-then (one-fed) _ _

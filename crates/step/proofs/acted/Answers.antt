@@ -5,7 +5,6 @@ use mathlib.Core.List.{List, []}
 use Prim.Native.Nat.{ℕ, ◌<◌}
 use lib.ListN.{get_or, length, set}
 use native.Mathlib.Omega.{arith}
-use borrow.Author.Tests.{not-false, not-true}
 use Rattle.model.specs.declared.answer.Answer.{Answer}
 use Rattle.model.specs.declared.event.Action.{Action}
 use Rattle.model.specs.declared.machine.Setup.{Setup}
@@ -114,7 +113,6 @@ pub returns-else-not-is_processor : goal.returns-else-not-is_processor
 returns-else-not-is_processor c =
     let x : Parts = record { setup = c.args.setup; vp = c.args.operation.vp; mode = c.args.operation.mode; action = c.args.operation.action; levels = c.args.levels.now; masks = c.args.masks.now; words = c.args.words.now; rows = c.args.vps.now } in
     let on-there : is_index c.args.setup.processors c.in-Envp.on.0 ≡ true = sym c.is_processor.ensures ∙ c.if-not-is_processor.false in
-   
     let told = c.in-Envp.is in
     let to = on-there in
     on-other x c.requires.1 c.record_count.ensures c.active_of-actor.ensures _ told _ to _ (c.envp.ensures _ _ _ _ _ (its-acts x c.requires.1 c.record_count.ensures c.active_of-actor.ensures _ told) (other-runs x c.requires.1 c.record_count.ensures c.active_of-actor.ensures _ told _ to) (other-enabled x c.requires.1 c.record_count.ensures c.active_of-actor.ensures _ told _ to _ _ (c.enabled_anywhere-elsewhere.ensures _ _ _)))

@@ -4,7 +4,7 @@ use mathlib.Core.Path.{◌≡◌, sym, ap, ◌∙◌}
 use mathlib.Core.Bool.{true}
 use Prim.Native.Nat.{◌<◌}
 use native.Mathlib.Omega.{arith}
-use borrow.Author.Tests.{not-false, not-true, lt-ltb, le-ltb}
+use borrow.Author.Tests.{lt-ltb, le-ltb}
 use Rattle.model.specs.State.{processors, is_index}
 use Rattle.promise.specs.Promise.{outcome_of}
 use Rattle.state.specs.Lent.{machine_of}
@@ -26,7 +26,6 @@ returns-then-mode-gt1 c =
 pub acted-requires : goal.acted-requires
 acted-requires c =
     let maker-there : is_index c.args.setup.processors c.in-Made.vp.0 ≡ true = sym c.is_processor.ensures ∙ c.if-not-is_processor.false in
-   
     (c.requires, maker-there)
 
 pub returns-then-not-is_processor-2 : goal.returns-then-not-is_processor-2
@@ -38,14 +37,12 @@ pub returns-else-mode-gt1 : goal.returns-else-mode-gt1
 unfolding machine_of processors
 returns-else-mode-gt1 c =
     let maker-there : is_index c.args.setup.processors c.in-Made.vp.0 ≡ true = sym c.is_processor.ensures ∙ c.if-not-is_processor.false in
-   
     rw c.in-Made.is
     (c.acted.ensures ∙ rw c.mode_of-mode.ensures (made _ _ _ _ (maker-there) (le-ltb _ _ c.if-mode-gt1.false)))
 
 pub returns-else-not-is_processor-2 : goal.returns-else-not-is_processor-2
 returns-else-not-is_processor-2 c =
     let on-there : is_index c.args.setup.processors c.in-Int.on.0 ≡ true = sym c.is_processor-in-Int.ensures ∙ c.if-not-is_processor-2.false in
-   
     let there = on-there in
     rw c.in-Int.is
     (sym (c.int.ensures _ _ (runs c.args.setup c.args.levels.now c.args.masks.now c.args.vps.now c.args.words.now _ there)

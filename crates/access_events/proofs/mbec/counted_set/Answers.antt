@@ -1,6 +1,5 @@
 -- `mbec::counted_set` meets its contract: the test of the definition, and the levels that have MBEC on. Assumes nothing.
 use mathlib.Core.Path.{sym, ◌∙◌}
-use borrow.Author.Tests.{not-false, not-true}
 use Rattle.access_events.specs.Counting.{counted_set}
 use Rattle.access_events.proofs.mbec.counted_set.Goals as goal
 

@@ -1,6 +1,5 @@
 -- `mbec::counting_set` meets its contract: the test of the definition, and the levels whose MBEC counts. Assumes nothing.
 use mathlib.Core.Path.{sym, ◌∙◌}
-use borrow.Author.Tests.{not-false, not-true}
 use Rattle.access_events.specs.Counting.{counting_set}
 use Rattle.access_events.proofs.mbec.counting_set.Goals as goal
 

@@ -1,7 +1,6 @@
 -- `masks_pass` meets its contract. The loop's invariant: the mask of each page below `page` passes. The measure is the number of
 -- pages left. Assumes nothing.
 use mathlib.Core.Path.{ap, ◌∙◌}
-use Prim.Native.Nat.{◌-◌}
 use native.Mathlib.Omega.{arith}
 use Rattle.partition.specs.Denying.{mask_passes}
 use Rattle.partition.proofs.Counted.{every-none, every_more, every-done}

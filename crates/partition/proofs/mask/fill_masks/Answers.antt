@@ -1,6 +1,5 @@
 -- `fill_masks` meets its contract. The loop's invariant: the masks of the pages below `page` are filled. The measure is the
 -- number of pages left. Assumes nothing.
-use Prim.Native.Nat.{◌-◌}
 use native.Mathlib.Omega.{arith}
 use Rattle.partition.proofs.Counted.{filled_none, filled_more, filled-done}
 use Rattle.partition.proofs.mask.fill_masks.Goals as goal

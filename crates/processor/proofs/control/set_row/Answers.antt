@@ -1,5 +1,4 @@
 -- `control::set_row` meets its contract. The loop's invariant is `Filled`, and the measure is the number of words left. Assumes nothing.
-use Prim.Native.Nat.{◌-◌}
 use Rattle.processor.proofs.RecordRows.{filled-start, filled_more, filled-done}
 use borrow.Author.Rules.{rules}
 use Rattle.processor.proofs.control.set_row.Goals as goal

@@ -1,6 +1,5 @@
 -- `script::fields::count_after` meets its contract. The loop's invariant: the fields that were counted and those from `i` on are one
 -- more than there are. The measure is what is left of the line. Assumes nothing.
-use Prim.Native.Nat.{◌-◌}
 use native.Mathlib.Omega.{arith}
 use Rattle.script.proofs.FieldPlaces.{no_field}
 use Rattle.script.proofs.NumberReading.{byte-counted, counted-after, last-counted, tab-counted}
@@ -17,7 +16,7 @@ pub loop-i-preserved : goal.loop-i-preserved
 loop-i-preserved c =
     let line = c.args.line.now in
     elim c.if-line-i-eq9.branch [
-      then-line-i-eq9 w ↦ (omega (arith, tab-counted line c.loop-i.i (omega arith) w.if-line-i-eq9.true), omega arith)
+      | then-line-i-eq9 w ↦ (omega (arith, tab-counted line c.loop-i.i (omega arith) w.if-line-i-eq9.true), omega arith)
       | else-line-i-eq9 w ↦ (omega (arith, byte-counted line c.loop-i.i (omega arith) w.if-line-i-eq9.false), omega arith)
     ]
 

@@ -1,6 +1,5 @@
 -- `script::fields::numbers` meets its contract. The loop's invariant is `Reading`, and the measure is what is left of the numbers.
 -- Assumes nothing.
-use Prim.Native.Nat.{◌-◌}
 use native.Mathlib.Omega.{arith}
 use Rattle.script.proofs.NumberReading.{ended, no_number, no_row, none_read, number_read, too_few}
 use Rattle.script.proofs.fields.numbers.Goals as goal

@@ -39,6 +39,5 @@ returns c =
     one-passed ∙ past_next a.byte a.bytes.now (a.start + 1) (a.start + 2) (omega arith) (omega arith) c.if-bytes-start-2.false in
     let three-passed : let a = c.args in byte_at a.byte a.bytes.now a.start ≡ byte_at a.byte a.bytes.now (a.start + 3) = let a = c.args in
     two-passed ∙ past_next a.byte a.bytes.now (a.start + 2) (a.start + 3) (omega arith) (omega arith) c.if-bytes-start-3.false in
-   
     let a = c.args in
     three-passed ∙ past_next a.byte a.bytes.now (a.start + 3) (a.start + 4) (omega arith) (omega arith) c.if-bytes-start-4.false

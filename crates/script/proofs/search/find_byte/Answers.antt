@@ -1,6 +1,5 @@
 -- `script::search::find_byte` meets its contract. The loop's invariant: the byte stands where it next stands from `i` on. The
 -- measure is what is left of the bytes. Assumes nothing.
-use Prim.Native.Nat.{◌-◌}
 use mathlib.Core.Path.{refl, sym, ◌∙◌}
 use Rattle.script.proofs.FieldPlaces.{at_byte, at-end, past-byte}
 use Rattle.script.proofs.search.find_byte.Goals as goal

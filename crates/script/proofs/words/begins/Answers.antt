@@ -1,6 +1,5 @@
 -- `script::words::begins` meets its contract. The loop's invariant: the line begins with the word where it does so from `i` on. The
 -- measure is what is left of the name. Assumes nothing.
-use Prim.Native.Nat.{◌-◌}
 use mathlib.Core.Path.{◌≡◌, sym, ◌∙◌}
 use native.Mathlib.Omega.{arith}
 use lib.ListN.{length}

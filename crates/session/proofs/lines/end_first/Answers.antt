@@ -1,6 +1,5 @@
 -- `session::lines::end_first` meets its contract: by what the line says, and whether that is admissible. Assumes nothing.
 use Rattle.std.proofs.Common.{sym, ◌∙◌, rules}
-use borrow.Author.Tests.{not-false, not-true}
 use Rattle.session.proofs.Ending.{first_done, first-malformed, first-refused}
 use Rattle.session.proofs.lines.end_first.Goals as goal
 

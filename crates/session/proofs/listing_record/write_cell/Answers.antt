@@ -25,7 +25,6 @@ bounds-out-end c =
     let number : let a = c.args in Written a.out.now a.at (decimal a.value) c.write-end.result c.write-end.new.out = let a = c.args in
     let room : a.at + length (decimal a.value) ≤ length a.out.now = omega (arith, cell-length a.value a.closing, c.requires) in
     record { value = c.write-end.ensures.value ∙ after-room _ _ _ room; out_after = c.write-end.ensures.out_after ∙ with-room _ _ _ room } in
-   
     let a = c.args in
     let w = number in
     omega (arith, w.value, written-length a.out.now a.at (decimal a.value) w, cell-length a.value a.closing, c.requires)
@@ -35,7 +34,6 @@ overflow_add-result-2 c =
     let number : let a = c.args in Written a.out.now a.at (decimal a.value) c.write-end.result c.write-end.new.out = let a = c.args in
     let room : a.at + length (decimal a.value) ≤ length a.out.now = omega (arith, cell-length a.value a.closing, c.requires) in
     record { value = c.write-end.ensures.value ∙ after-room _ _ _ room; out_after = c.write-end.ensures.out_after ∙ with-room _ _ _ room } in
-   
     let a = c.args in
     omega (arith, (number).value, cell-length a.value a.closing, c.requires)
 
@@ -45,6 +43,5 @@ returns c =
     let number : let a = c.args in Written a.out.now a.at (decimal a.value) c.write-end.result c.write-end.new.out = let a = c.args in
     let room : a.at + length (decimal a.value) ≤ length a.out.now = omega (arith, cell-length a.value a.closing, c.requires) in
     record { value = c.write-end.ensures.value ∙ after-room _ _ _ room; out_after = c.write-end.ensures.out_after ∙ with-room _ _ _ room } in
-   
     let a = c.args in
     written_next a.out.now a.at (decimal a.value) (a.closing ∷ []) (number) record { value = refl; out_after = refl }

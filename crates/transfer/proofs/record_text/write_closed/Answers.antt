@@ -1,6 +1,5 @@
 -- `record_text::write_closed` meets its contract: the first numbers are written, each with its tab. Assumes nothing.
 use mathlib.Core.Path.{refl}
-use Prim.Native.Nat.{◌-◌}
 use native.Mathlib.Omega.{arith}
 use lib.ListN.{get_or, take}
 use lib.Seq.{take_all}

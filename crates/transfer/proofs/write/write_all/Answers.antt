@@ -21,7 +21,6 @@ write_first-end-requires c =
     let S : State = lent c.args.setup c.args.levels.now c.args.masks.now c.args.vps.now c.args.words.now in
     let both : first_record_text c.args.setup ++ places_text (S) ≡ records_text (S) = whole_is (S) in
     let room : 0 + length (first_record_text c.args.setup ++ places_text (S)) ≤ length c.args.out.now = omega (arith, ap length (both), short-text (S) c.requires.words_value, c.requires.longest_text_in_bounds) in
-   
     omega (arith, first-room c.args.out.now 0 (first_record_text c.args.setup) (places_text (S)) (room))
 
 pub write_places-requires : goal.write_places-requires
@@ -31,7 +30,6 @@ write_places-requires c =
     let both : first_record_text c.args.setup ++ places_text (S) ≡ records_text (S) = whole_is (S) in
     let room : 0 + length (first_record_text c.args.setup ++ places_text (S)) ≤ length c.args.out.now = omega (arith, ap length (both), short-text (S) c.requires.words_value, c.requires.longest_text_in_bounds) in
     let wrote : Written c.args.out.now 0 (first_record_text c.args.setup) c.write_first-end.result c.write_first-end.new.out = record { value = omega (arith, c.write_first-end.ensures.value); out_after = c.write_first-end.ensures.out_after } in
-   
     record { words_value = c.requires.words_value; words_in_bounds = second-room c.args.out.now 0 (first_record_text c.args.setup) (places_text (S)) (room) (wrote) }
 
 pub returns : goal.returns
@@ -40,6 +38,5 @@ returns c =
     let S : State = lent c.args.setup c.args.levels.now c.args.masks.now c.args.vps.now c.args.words.now in
     let both : first_record_text c.args.setup ++ places_text (S) ≡ records_text (S) = whole_is (S) in
     let wrote : Written c.args.out.now 0 (first_record_text c.args.setup) c.write_first-end.result c.write_first-end.new.out = record { value = omega (arith, c.write_first-end.ensures.value); out_after = c.write_first-end.ensures.out_after } in
-   
     let all = written_next c.args.out.now 0 (first_record_text c.args.setup) (places_text (S)) (wrote) c.write_places.ensures in
     record { value = omega (arith, all.value, ap length (both)); out_after = all.out_after ∙ ap (sets c.args.out.now 0) (both) }

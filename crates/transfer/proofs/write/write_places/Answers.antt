@@ -1,7 +1,6 @@
 -- `write::write_places` meets its contract. The loop keeps what is left to write; the rank of the place that is due rises.
 -- Assumes nothing.
 use mathlib.Core.Path.{◌≡◌, ap}
-use Prim.Native.Nat.{◌-◌}
 use native.Mathlib.Omega.{arith}
 use lib.ListN.{length}
 use Rattle.model.specs.State.{State}
@@ -20,7 +19,6 @@ unfolding machine_of
 loop-due-init c =
     let S : State = lent c.args.setup c.args.levels.now c.args.masks.now c.args.vps.now c.args.words.now in
     let few : Small c.args.setup = small (S) c.requires.words_value in
-   
     rw c.first-due.ensures (left-start c.args.setup (value_at (S)) c.args.out.now c.args.start (few))
 
 pub shape_of-out-in_default : goal.shape_of-out-in_default
@@ -31,7 +29,6 @@ pub returns-in_default : goal.returns-in_default
 unfolding places_text machine_of
 returns-in_default c =
     let S : State = lent c.args.setup c.args.levels.now c.args.masks.now c.args.vps.now c.args.words.now in
-   
     left-done c.args.setup (value_at (S)) c.args.out.now c.args.start c.loop-due.out c.loop-due.at (rw c.in_default.is at c.loop-due.invariant)
 
 pub quantity-value-requires : goal.quantity-value-requires
@@ -47,14 +44,12 @@ unfolding places_text machine_of
 write_record-at-requires c =
     let S : State = lent c.args.setup c.args.levels.now c.args.masks.now c.args.vps.now c.args.words.now in
     let due-of : Due c.args.setup (value_at (S)) c.args.out.now c.args.start c.loop-due.out c.loop-due.at c.in-At.place = left_at c.args.setup (value_at (S)) c.args.out.now c.args.start c.loop-due.out c.loop-due.at c.in-At.place (rw c.in-At.is at c.loop-due.invariant) in
-   
     rw c.quantity-value.ensures ((due-of).room c.requires.words_in_bounds)
 
 pub loop-due-smaller : goal.loop-due-smaller
 loop-due-smaller c =
     let S : State = lent c.args.setup c.args.levels.now c.args.masks.now c.args.vps.now c.args.words.now in
     let due-of : Due c.args.setup (value_at (S)) c.args.out.now c.args.start c.loop-due.out c.loop-due.at c.in-At.place = left_at c.args.setup (value_at (S)) c.args.out.now c.args.start c.loop-due.out c.loop-due.at c.in-At.place (rw c.in-At.is at c.loop-due.invariant) in
-   
     let d = due-of in
     omega (arith, ap (due_rank c.args.setup) c.next-due.ensures, ap (due_rank c.args.setup) c.in-At.is, d.below, d.rises)
 
@@ -62,5 +57,4 @@ pub loop-due-preserved : goal.loop-due-preserved
 loop-due-preserved c =
     let S : State = lent c.args.setup c.args.levels.now c.args.masks.now c.args.vps.now c.args.words.now in
     let due-of : Due c.args.setup (value_at (S)) c.args.out.now c.args.start c.loop-due.out c.loop-due.at c.in-At.place = left_at c.args.setup (value_at (S)) c.args.out.now c.args.start c.loop-due.out c.loop-due.at c.in-At.place (rw c.in-At.is at c.loop-due.invariant) in
-   
     rw c.next-due.ensures ((due-of).goes c.write_record-at.result c.write_record-at.new.out (rw c.quantity-value.ensures at c.write_record-at.ensures))

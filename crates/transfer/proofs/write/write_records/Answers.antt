@@ -2,7 +2,6 @@
 -- this one may be too short. Assumes nothing.
 use mathlib.Core.Bool.{true}
 use mathlib.Core.Path.{◌≡◌, sym, ◌∙◌}
-use borrow.Author.Tests.{not-true, not-false}
 use native.Mathlib.Omega.{arith}
 use Rattle.model.specs.State.{State}
 use Rattle.model.specs.WellFormed.{well_formed}
@@ -14,7 +13,6 @@ use Rattle.transfer.proofs.write.write_records.Goals as goal
 pub returns-then-not-well_formed : goal.returns-then-not-well_formed
 returns-then-not-well_formed c =
     let S : State = lent c.args.setup c.args.levels.now c.args.masks.now c.args.vps.now c.args.words.now in
-   
     sent-nothing (S) c.args.out.now (sym c.well_formed-2.ensures ∙ c.if-not-well_formed.true)
 
 pub write_all-requires : goal.write_all-requires
@@ -27,7 +25,6 @@ pub returns-then-out-ge-LONGEST_TEXT : goal.returns-then-out-ge-LONGEST_TEXT
 returns-then-out-ge-LONGEST_TEXT c =
     let S : State = lent c.args.setup c.args.levels.now c.args.masks.now c.args.vps.now c.args.words.now in
     let formed : well_formed (S) ≡ true = sym c.well_formed-2.ensures ∙ c.if-not-well_formed.false in
-   
     let w = c.write_all.ensures in
     sent-whole (S) c.args.out.now (formed) (omega (arith, short-text (S) (formed), c.if-out-ge-LONGEST_TEXT.true)) w.value w.out_after
 

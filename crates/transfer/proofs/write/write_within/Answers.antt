@@ -14,7 +14,6 @@ use Rattle.transfer.proofs.write.write_within.Goals as goal
 pub returns-then-out-size : goal.returns-then-out-size
 returns-then-out-size c =
     let S : State = lent c.args.setup c.args.levels.now c.args.masks.now c.args.vps.now c.args.words.now in
-   
     sent-short (S) c.args.out.now c.requires (omega (arith, c.if-out-size.true, c.write_all-size.ensures.value))
 
 pub slice_bounds-text-end : goal.slice_bounds-text-end
@@ -44,7 +43,6 @@ slice_bounds-put-end c =
     let text : take c.write_all-size.result c.write_all-size.new.out ≡ records_text (S) = let e = c.write_all-size.ensures.out_after in
     let room : c.write_all-size.result ≤ length (sets c.blank-text.result 0 (records_text (S))) = omega (arith, inside, ap length e) in
     ap (take c.write_all-size.result) e ∙ taken_out c.blank-text.result (records_text (S)) c.write_all-size.result c.write_all-size.ensures.value room in
-   
     c.write_all-size.ensures.value ∙ sym (ap length (text))
 
 pub put-requires : goal.put-requires
@@ -61,7 +59,6 @@ put-requires c =
     let text : take c.write_all-size.result c.write_all-size.new.out ≡ records_text (S) = let e = c.write_all-size.ensures.out_after in
     let room : c.write_all-size.result ≤ length (sets c.blank-text.result 0 (records_text (S))) = omega (arith, inside, ap length e) in
     ap (take c.write_all-size.result) e ∙ taken_out c.blank-text.result (records_text (S)) c.write_all-size.result c.write_all-size.ensures.value room in
-   
     omega (arith, ap length (text), c.write_all-size.ensures.value, c.if-out-size.false)
 
 pub returns : goal.returns
@@ -78,7 +75,6 @@ returns c =
     let text : take c.write_all-size.result c.write_all-size.new.out ≡ records_text (S) = let e = c.write_all-size.ensures.out_after in
     let room : c.write_all-size.result ≤ length (sets c.blank-text.result 0 (records_text (S))) = omega (arith, inside, ap length e) in
     ap (take c.write_all-size.result) e ∙ taken_out c.blank-text.result (records_text (S)) c.write_all-size.result c.write_all-size.ensures.value room in
-   
     let p = c.put.ensures in
     sent-whole (S) c.args.out.now c.requires (omega (arith, c.write_all-size.ensures.value, c.if-out-size.false))
     (omega (arith, p.value, ap length (text))) (p.out_after ∙ ap (sets c.args.out.now 0) (text))

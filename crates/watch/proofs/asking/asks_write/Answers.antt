@@ -1,6 +1,6 @@
 -- `asking::asks_write` meets its contract: the tests of the definition. Assumes nothing.
 use mathlib.Core.Path.{sym, ◌∙◌}
-use borrow.Author.Tests.{eq-eqb, ne_eqb, not-true, not-false}
+use borrow.Author.Tests.{eq-eqb, ne_eqb}
 use Rattle.model.specs.Watching.{asks_write}
 use Rattle.watch.proofs.asking.asks_write.Goals as goal
 

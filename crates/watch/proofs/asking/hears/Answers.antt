@@ -1,7 +1,7 @@
 -- `asking::hears` meets its contract: the three tests. Assumes nothing.
 use mathlib.Core.Path.{sym, ◌∙◌}
 use mathlib.Core.Bool.{and-false}
-use borrow.Author.Tests.{lt-ltb, le-ltb, not-true, not-false}
+use borrow.Author.Tests.{lt-ltb, le-ltb}
 use Rattle.watch.proofs.asking.hears.Goals as goal
 
 pub returns-then-level-actor : goal.returns-then-level-actor

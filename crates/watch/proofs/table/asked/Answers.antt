@@ -1,7 +1,6 @@
 -- `table::asked` meets its contract: the rows from i on answer as all do. The rows of the code are compared with `watch_table` where a law of the
 -- rows is used: antt computes both. Assumes nothing.
 use mathlib.Core.Path.{◌≡◌, refl, sym, ap, ◌∙◌}
-use Prim.Native.Nat.{◌-◌}
 use lib.ListN.{drop}
 use native.Mathlib.Omega.{arith}
 use Rattle.model.specs.Watching.{watch_table, asked_in}

@@ -1,0 +1,14 @@
+-- `first::first_record` meets its contract. Assumes nothing.
+use mathlib.Core.Path.{sym, ap, ◌∙◌}
+use Rattle.records.specs.Reading.{from_first}
+use Rattle.script.specs.declared.Start.{Start}
+use Rattle.reader.proofs.SevenFields.{first-right, first-wrong}
+use Rattle.reader.proofs.first.first_record.Goals as goal
+
+pub returns-then-field_count-ne-FIRST_FIELDS : goal.returns-then-field_count-ne-FIRST_FIELDS
+returns-then-field_count-ne-FIRST_FIELDS c rest = sym (first-wrong _ (λ e. c.if-field_count-ne-FIRST_FIELDS.true (c.field_count.ensures ∙ e)) rest)
+
+pub returns : goal.returns
+returns c rest =
+    ap (λ (s : Start). from_first s rest)
+    (c.parse_first.ensures ∙ first-right _ (sym c.field_count.ensures ∙ c.if-field_count-ne-FIRST_FIELDS.false))

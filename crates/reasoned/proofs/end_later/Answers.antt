@@ -1,0 +1,38 @@
+-- `reasoned::end_later` meets its contract: the line is answered in the state of the session. Assumes nothing.
+use Rattle.std.proofs.Common.{ℕ, List, length, take, sym, ap, ◌∙◌, arith, length-take-le}
+use lib.Seq.{sets}
+use Rattle.chunk.proofs.ChunkLines.{held-taken, held-within}
+use Rattle.reasoned.proofs.ReasonedLines.{later-progress, later-text}
+use Rattle.session.proofs.Ending.{words_back}
+use Rattle.state.specs.Lent.{lent}
+use Rattle.reasoned.proofs.end_later.Goals as goal
+
+-- The bytes of the line that are held.
+pub slice_bounds-line-end : goal.slice_bounds-line-end
+slice_bounds-line-end c = let s = c.args.start in held-within s.line s.length _ c.held_length-size.ensures
+
+pub slice_bounds-parse-end : goal.slice_bounds-parse-end
+slice_bounds-parse-end c =
+    let s = c.args.start in
+    sym (length-take-le _ _ (held-within s.line s.length _ c.held_length-size.ensures))
+
+pub slice_bounds-tell-end : goal.slice_bounds-tell-end
+slice_bounds-tell-end c = sym (length-take-le _ _ (omega (arith, c.lent_words-lent.ensures)))
+
+pub returns : goal.returns
+returns c =
+    let a = c.args in
+    let w = c.tell-told.ensures in
+    let line = take c.held_length-size.result a.start.line in
+    let s = lent a.start.setup a.start.levels a.start.masks c.records-vps.result (take c.lent_words-lent.result a.start.words) in
+    let text = later-text a.start.number s line _ _ _ c.parse-parsed.ensures w.shown w.why in
+    rw (← c.lent_words-lent.ensures.number, ← c.records-vps.ensures, ← held-taken a.start.line a.start.length _ c.held_length-size.ensures)
+    (record {
+      progress =
+          c.after_line-session.ensures
+          ∙ rw (c.wrapping_add_u64-next.ensures.value, ← c.lent_words-lent.ensures.number, words_back a.start.words _ c.lent_words-lent.result (omega (arith, c.lent_words-lent.ensures)) c.tell-told.auto.words)
+          (later-progress a.start.number s _ line (rw c.parse-parsed.ensures at w.next));
+      wrote = c.write_line-wrote.ensures.wrote ∙ ap length text;
+      written = c.write_line-wrote.ensures.out ∙ ap (λ (t : List ℕ). sets a.out.now 0 t) text;
+      within = c.write_line-wrote.ensures.within;
+    })

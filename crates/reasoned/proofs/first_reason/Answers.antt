@@ -1,0 +1,13 @@
+-- `reasoned::first_reason` meets its contract: by what the line says, and whether that is admissible. Assumes nothing.
+use Rattle.reasoned.proofs.first_reason.Goals as goal
+
+pub returns-then-admissible : goal.returns-then-admissible
+returns-then-admissible c =
+    rw (← c.parse_first-said.ensures, c.in-First.is, ← c.admissible.ensures, c.if-admissible.true)
+
+pub returns-else-admissible : goal.returns-else-admissible
+returns-else-admissible c =
+    rw (← c.parse_first-said.ensures, c.in-First.is, ← c.admissible.ensures, c.if-admissible.false)
+
+pub returns-in-Malformed : goal.returns-in-Malformed
+returns-in-Malformed c = rw (← c.parse_first-said.ensures, c.in-Malformed.is)

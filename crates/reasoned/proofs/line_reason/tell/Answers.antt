@@ -1,0 +1,17 @@
+-- `line_reason::tell` meets its contract: the line says an event, or is malformed. Assumes nothing.
+use Rattle.std.proofs.Common.{refl, ◌∙◌}
+use Rattle.reasoned.proofs.ReasonedLines.{shown-malformed}
+use Rattle.state.specs.Lent.{lent}
+use Rattle.reasoned.proofs.line_reason.tell.Goals as goal
+
+pub returns-in-Event : goal.returns-in-Event
+returns-in-Event c =
+    let a = c.args in
+    rw (← c.asked_by-asked.ensures, c.cause_of-cause.ensures a.words.now, c.in-Event.is) c.tell_event.ensures
+
+pub returns-in-Malformed : goal.returns-in-Malformed
+returns-in-Malformed c =
+    let a = c.args in
+    let s = lent a.setup a.levels.now a.masks.now a.vps.now a.words.now in
+    rw (← c.asked_by-asked.ensures, c.cause_of-cause.ensures a.words.now, c.in-Malformed.is)
+    (record { next = refl; shown = c.show.ensures ∙ shown-malformed s c.in-Malformed.refusal; why = c.reason_for.ensures })
