@@ -4,6 +4,7 @@ ghost use Rattle.std.specs.Prelude.{◌≤◌};
 
 use chunk::KEPT_BYTES;
 use session::{LONGEST_RECORD, Session};
+use std::io::{Print, Stderr};
 
 // A first line has the word vsm and five numbers, each after a tab, and perhaps a sixth. The first record of a state always has the sixth.
 const FEWEST_TABS: usize = 5;
@@ -28,13 +29,11 @@ fn equal(left: u8, right: u8) -> usize
 // How often a byte occurs before the first line feed.
 fn occurs(line: &[u8], byte: u8) -> usize {
     let mut number: usize = 0;
-    let mut i: usize = 0;
-    while i < line.len() {
-        if line[i] == b'\n' {
+    for found in line {
+        if *found == b'\n' {
             break;
         }
-        number += equal(line[i], byte);
-        i += 1;
+        number += equal(*found, byte);
     }
     number
 }
@@ -65,37 +64,41 @@ fn fault_of(line: &[u8], fewest: usize) -> Fault {
     Fault::Number
 }
 
-// Writes one line to standard error: the name of the input, and the hint.
-fn say(name: &[u8], text: &[u8]) {
-    io::write_all(libc::STDERR_FILENO, b"bench: ");
-    io::write_all(libc::STDERR_FILENO, name);
-    io::write_all(libc::STDERR_FILENO, b": ");
-    io::write_all(libc::STDERR_FILENO, text);
-    io::write_all(libc::STDERR_FILENO, b"\n");
+// Writes one line to standard error: the name of the input, and the hint or the reason of a failure. Where that fails, nothing comes of it.
+pub fn say(err: Stderr, name: &[u8], text: &[u8]) {
+    let parts: [&[u8]; 5] = [b"bench: ", name, b": ", text, b"\n"];
+    for part in parts {
+        let _ = Print::write_all(&err, part);
+    }
 }
 
 // The hint for the first line of a script: the bytes before the line feed.
-fn say_fault(name: &[u8], line: &[u8; KEPT_BYTES]) {
+fn say_fault(err: Stderr, name: &[u8], line: &[u8; KEPT_BYTES]) {
     let bytes: &[u8] = line;
     let found = fault_of(bytes, FEWEST_TABS);
     match found {
         Fault::Spaces => say(
+            err,
             name,
             b"first line refused: it has a space, but tabs separate the fields",
         ),
         Fault::Return => say(
+            err,
             name,
             b"first line refused: it has a carriage return, but a line ends with a line feed alone",
         ),
         Fault::Word => say(
+            err,
             name,
             b"first line refused: it does not begin with the word vsm and a tab",
         ),
         Fault::Count => say(
+            err,
             name,
             b"first line refused: after vsm it needs 5 or 6 numbers, each after a tab",
         ),
         Fault::Number => say(
+            err,
             name,
             b"first line refused: one of its numbers is malformed or out of range",
         ),
@@ -103,22 +106,22 @@ fn say_fault(name: &[u8], line: &[u8; KEPT_BYTES]) {
 }
 
 // The hint for a first line that begins with what a session has kept of it, and goes on with these bytes.
-fn hint_line(name: &[u8], before: Session, more: &[u8]) {
+fn hint_line(err: Stderr, name: &[u8], before: Session, more: &[u8]) {
     let mut line = before.line;
     let held = chunk::append(&mut line, before.length, more);
     chunk::append(&mut line, held, b"\n");
-    say_fault(name, &line);
+    say_fault(err, name, &line);
 }
 
 // Gives a hint where the first line was refused in this chunk.
-pub fn hint(name: &[u8], before: Session, after: Session, chunk: &[u8]) {
+pub fn hint(err: Stderr, name: &[u8], before: Session, after: Session, chunk: &[u8]) {
     if session::stopped(after) {
-        hint_line(name, before, chunk);
+        hint_line(err, name, before, chunk);
     }
 }
 
 // Gives a hint where the first line lacks its line feed, and is refused at the end of the input. An empty input gets none.
-pub fn hint_end(name: &[u8], current: Session) {
+pub fn hint_end(err: Stderr, name: &[u8], current: Session) {
     if current.length == 0 {
         return;
     }
@@ -126,12 +129,12 @@ pub fn hint_end(name: &[u8], current: Session) {
     let ended = session::finish(current, &mut record);
     let last = ended.session;
     if session::stopped(last) {
-        hint_line(name, current, b"");
+        hint_line(err, name, current, b"");
     }
 }
 
 // Gives a hint where an input does not begin with records: its first line is no first record. An empty input gets none.
-pub fn hint_records(name: &[u8], input: &[u8]) {
+pub fn hint_records(err: Stderr, name: &[u8], input: &[u8]) {
     if input.len() == 0 {
         return;
     }
@@ -139,6 +142,7 @@ pub fn hint_records(name: &[u8], input: &[u8]) {
     match found {
         Fault::Number => (),
         _ => say(
+            err,
             name,
             b"refused: the input does not begin with records as save writes them",
         ),
