@@ -1,5 +1,5 @@
 -- `turn` hands over the text that `feed_line` has put at the start of the buffer.
-use Rattle.std.proofs.Common.{refl, rules, ◌≡◌, ◌+◌, ◌-◌, ◌<◌, ◌≤◌, ℕ, List, length, subst, take, arith}
+use Rattle.std.proofs.Common.{refl, rules, ◌-◌, ℕ, List, length, subst, take, arith}
 use Rattle.std.proofs.KnownBytes.{Appends-nil, Appends-trans}
 use Rattle.std.specs.Io.KnownBytes.{Appends}
 use borrow.Rule.Slice.PartMut.{mid_of}
