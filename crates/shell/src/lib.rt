@@ -3,7 +3,7 @@
 // after. Which bytes the system moves, and what it answers, no contract can say.
 #![tactic(auto)]
 
-ghost use Rattle.std.specs.Prelude.{not, ◌&&◌, ◌≡◌, ◌≤◌, ◌==◌, eqb, length, take, IfSome, IsTrue, is_some};
+ghost use Rattle.std.specs.Prelude.{not, ◌&&◌, ◌≡◌, ◌<◌, ◌^◌, ◌-◌, ◌≤◌, ◌==◌, eqb, length, take, IfSome, IsTrue, is_some};
 ghost use Rattle.std.specs.Bool.{IsFalse, OnTrue};
 ghost use Rattle.std.specs.Io.KnownBytes.{Appends};
 ghost use Rattle.std.specs.Process.{exit_status};
@@ -345,7 +345,8 @@ pub fn close<W: Write>(report: &mut Report, output: &mut W, current: Session)
 
 // Reads a script, or what is left of it, to its end, feeds it to a session and writes its listing. A read or a write that fails is reported,
 // and ends it. A first line that is refused gets a hint. A proved loop has to end, and nothing says that an input does: so it counts up to a
-// number that no run uses up. Where nothing failed, and the bytes of the input are known, all is written that is to be written of them.
+// number that no run uses up. Where nothing failed, and the bytes of the input are known and fewer than that number, all is written that is to
+// be written of them.
 pub fn run<R: Read, W: Write>(
     report: &mut Report,
     input: &mut R,
@@ -355,7 +356,8 @@ pub fn run<R: Read, W: Write>(
 )
     ensures earlier { IsTrue (is_done report.new.outcome) → IsTrue (is_done report.old.outcome) }
     ensures listed { IsTrue (is_done report.new.outcome) → IfSome (R.remaining input.old) (λ script.
-        Appends (W.contents output.old) (W.contents output.new) (finished (consumed (progress_of start) script))) }
+        length script < 2 ^ 64 - 1
+        → Appends (W.contents output.old) (W.contents output.new) (finished (consumed (progress_of start) script))) }
 {
     let mut out = buffer();
     let mut chunk = buffer();
@@ -365,9 +367,7 @@ pub fn run<R: Read, W: Write>(
             return;
         };
         if n == 0 {
-            hint_end(report.err, name, s);
-            close(report, output, s);
-            return;
+            break;
         }
         let script = &chunk[..n];
         let after = turn(report, output, s, script, &mut out);
@@ -378,7 +378,8 @@ pub fn run<R: Read, W: Write>(
         }
         s = next;
     }
-    failed(report, name, io::Error::from(ErrorKind::FileTooLarge));
+    hint_end(report.err, name, s);
+    close(report, output, s);
 }
 
 // Is there an argument of that number? The first is number 1.

@@ -1,4 +1,4 @@
--- What `run` keeps is `Ran`, nothing has failed, and the buffer has its length.
+-- What `run` keeps is `Ran`, nothing has failed, and the buffer has its length. Assumes nothing.
 use Rattle.std.proofs.Common.{◌≡◌, length}
 use Rattle.session.specs.Session.{progress_of}
 use Rattle.shell.specs.Report.{is_done}
@@ -8,6 +8,6 @@ use Rattle.shell.proofs.run.Given as goal
 abbrev pub invariant-loop-turn : goal.invariant-loop-turn
 invariant-loop-turn g l =
     Ran (progress_of l.initial.s) (progress_of l.s) (g.R.Read.remaining l.initial.input) (g.R.Read.remaining l.input)
-    (g.W.Write.contents l.initial.output) (g.W.Write.contents l.output)
+    (g.W.Write.contents l.initial.output) (g.W.Write.contents l.output) l._turn
     × (is_done l.report.outcome ≡ is_done l.initial.report.outcome)
     × (65536 ≡ length l.chunk)
