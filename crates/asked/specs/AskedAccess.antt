@@ -1,14 +1,14 @@
 -- The access that a line asks for (01, "Events"; 02, request 3). Assumes nothing.
-use Rattle.std.specs.Prelude.{ℕ}
+use Rattle.std.specs.Prelude.{ℕ, Err, Ok, Result}
 use Rattle.model.specs.declared.event.Action.{Action}
 use Rattle.model.specs.declared.event.Action.TheVariants.{Enpart, Envp, Call, Ret, Read, Write, Fetch, Protect, Config, Secure, Flush, Rreg, Wreg, Tpr, Ack, Pstat, Vstat, Caps, Cri, Crm}
 use Rattle.model.specs.declared.event.Event.TheVariants.{Made, Int}
 use Rattle.model.specs.declared.quantity.Access.TheVariants as Access
 use Rattle.model.specs.declared.quantity.Processor.{Processor}
-use Rattle.script.specs.declared.Parsed.{Parsed}
-use Rattle.script.specs.declared.Parsed.TheVariants as parsed
 use Rattle.asked.specs.declared.Asked.{Asked}
 use Rattle.asked.specs.declared.Asked.TheVariants as asked
+use Rattle.model.specs.declared.answer.Refusal.{Refusal}
+use Rattle.model.specs.declared.event.Event.{Event}
 
 -- `read`, `write` and `fetch` are accesses; another line asks for none.
 abbrev pub asked_of : Processor → ℕ → Action → Asked
@@ -33,7 +33,7 @@ asked_of v mode Caps = asked.Nothing
 asked_of v mode (Cri word) = asked.Nothing
 asked_of v mode (Crm n mask) = asked.Nothing
 
-abbrev pub asked_by : Parsed → Asked
-asked_by (parsed.Malformed r) = asked.Nothing
-asked_by (parsed.Event (Made v mode a)) = asked_of v mode a
-asked_by (parsed.Event (Int w g n)) = asked.Nothing
+abbrev pub asked_by : Result Event Refusal → Asked
+asked_by (Err r) = asked.Nothing
+asked_by (Ok (Made v mode a)) = asked_of v mode a
+asked_by (Ok (Int w g n)) = asked.Nothing

@@ -1,5 +1,6 @@
 -- The theorem that reading what was written gives the number, for every number below 2^64.
 -- Assumes nothing.
+use Rattle.std.specs.Prelude.{Some}
 use Prim.Native.Nat.{ℕ, zero, suc, ◌/◌, ◌%◌, ◌<◌, ◌^◌}
 use mathlib.Core.Path.{◌≡◌, ◌∙◌}
 use mathlib.Core.List.{List, [], ◌∷◌}
@@ -7,7 +8,6 @@ use native.Mathlib.Nat.{pow-suc}
 use native.Mathlib.Omega.{arith}
 use Rattle.decimal.specs.Read.{read_decimal, read_from}
 use Rattle.decimal.specs.Write.{decimal, digits_before, digits_in, last_byte}
-use Rattle.decimal.specs.declared.Number.TheVariants.{Value}
 use Rattle.decimal.proofs.Digits.{either}
 use Rattle.decimal.proofs.DigitReading.{digit_value, extended-value}
 
@@ -26,6 +26,6 @@ read-digits (suc spare) n rest h l =
     (λ more. read-digits spare (n / 10) _ (omega (arith, pow-suc 10 (suc spare))) (omega arith) ∙ rw (extended-value n more l))
 
 -- Reading what was written gives the number.
-pub round_trip : (n : ℕ) → n < 2 ^ 64 → read_decimal (decimal n) ≡ Value n
+pub round_trip : (n : ℕ) → n < 2 ^ 64 → read_decimal (decimal n) ≡ Some n
 unfolding digits_before
 round_trip n h = read-digits 19 n [] (omega arith) h

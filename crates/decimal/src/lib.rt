@@ -6,69 +6,49 @@ ghost use Rattle.std.specs.Prelude.{◌≡◌, length};
 ghost use Rattle.decimal.specs.Read.{digit_of, extended, read_decimal};
 ghost use Rattle.decimal.specs.Write.{after_text, decimal, with_text};
 
-// What a field says as a number.
-#[derive(Clone, Copy)]
-pub enum Number {
-    Value(u64),
-    Malformed,
-}
-
 // Numbers end at 2^64-1.
-const LARGEST: u64 = 18446744073709551615;
+const LARGEST: u64 = u64::MAX;
 
-// The digit that a byte is.
-fn digit(byte: u8) -> Number
+// The digit that a byte is, if it is one.
+fn digit(byte: u8) -> Option<u64>
     ensures { result ≡ digit_of byte }
 {
-    let code = byte as u64;
-    if (48 <= code) & (code <= 57) {
-        return Number::Value(code - 48);
+    if (b'0' <= byte) & (byte <= b'9') {
+        return Some((byte - b'0') as u64);
     }
-    Number::Malformed
+    None
 }
 
 // The number `value` with the digit `byte` after it. Most numbers are far below the largest, and are known by two tests.
-fn extend(value: u64, byte: u8) -> Number
+fn extend(value: u64, byte: u8) -> Option<u64>
     ensures { result ≡ extended value byte }
 {
-    let Number::Value(last) = digit(byte) else {
-        return Number::Malformed;
-    };
+    let last = digit(byte)?;
     if value == 0 {
-        return Number::Malformed;
+        return None;
     }
     if value < LARGEST / 10 {
-        return Number::Value(value * 10 + last);
+        return Some(value * 10 + last);
     }
     if LARGEST / 10 < value {
-        return Number::Malformed;
+        return None;
     }
     if LARGEST % 10 < last {
-        return Number::Malformed;
+        return None;
     }
-    Number::Value(value * 10 + last)
+    Some(value * 10 + last)
 }
 
-// The number that the whole field says.
-pub fn read(field: &[u8]) -> Number
+// The number that the whole field says, if it is one.
+pub fn read(field: &[u8]) -> Option<u64>
     ensures { result ≡ read_decimal field.now }
 {
-    if field.len() == 0 {
-        return Number::Malformed;
+    let (first, rest) = field.split_first()?;
+    let mut value = digit(*first)?;
+    for byte in rest {
+        value = extend(value, *byte)?;
     }
-    let Number::Value(first) = digit(field[0]) else {
-        return Number::Malformed;
-    };
-    let mut value = first;
-    let mut i: usize = 1;
-    while i < field.len() {
-        let Number::Value(next) = extend(value, field[i]) else {
-            return Number::Malformed;
-        };
-        value = next;
-        i += 1;
-    }
-    Number::Value(value)
+    Some(value)
 }
 
 // How many digits `value` has: `limit` is 10 to the power of `count`.

@@ -1,5 +1,6 @@
 -- The explanation of an access is that of its answer, and shows each denying level as it denies (`AnswerExplained`, `DenialsShown` and
 -- `DenialsFit` of specs/ExplainedClaims.antt). An explanation says what the answer is, up to the value of an access that is done. Assumes nothing.
+use Rattle.std.specs.Prelude.{None, Option, Some}
 use mathlib.Core.Path.{◌≡◌, refl, sym, ap, ◌∙◌}
 use mathlib.Core.Bool.{Bool, true, false, not, cond, ◌&&◌, and-false, false≢true}
 use Prim.Native.Nat.{ℕ, zero, suc, ◌/◌, ◌%◌, ◌^◌, ◌≤◌, ◌<◌}
@@ -30,8 +31,6 @@ use Rattle.access_events.specs.Access.{accessed, access_value}
 use Rattle.explanation.specs.declared.Denial.{Denial}
 use Rattle.explanation.specs.declared.Explanation.{Explanation}
 use Rattle.explanation.specs.declared.Explanation.TheVariants.{Allowed, Host, Levels}
-use Rattle.explanation.specs.declared.Receiver.{Receiver}
-use Rattle.explanation.specs.declared.Receiver.TheVariants.{Nobody, By}
 use Rattle.explanation.specs.Explained.{receiver_by, is_fetch, denial_by, denial_of, explanation_of}
 use Rattle.explanation.specs.ExplainedClaims.{DeniedTo, Explains, AnswerExplained, denial_in, is_denial, DenialsShown, FitsIn, DenialsFit}
 
@@ -39,34 +38,34 @@ use Rattle.explanation.specs.ExplainedClaims.{DeniedTo, Explains, AnswerExplaine
 abbrev answer_by : Explanation → ℕ → Answer
 answer_by Allowed x = Done x
 answer_by Host x = Refused Refusal.HostDenies
-answer_by (Levels Nobody first second third) x = Refused Refusal.NoReceiver
-answer_by (Levels (By l) first second third) x = Intercept l
+answer_by (Levels None first second third) x = Refused Refusal.NoReceiver
+answer_by (Levels (Some l) first second third) x = Intercept l
 
 -- Which answer it is tells the explanation.
 is-allowed : (e : Explanation) (x : ℕ) → number_of (answer_by e x) ≡ 0 → e ≡ Allowed
 is-allowed Allowed x q = refl
 is-allowed Host x q = absurd (omega arith)
-is-allowed (Levels Nobody first second third) x q = absurd (omega arith)
-is-allowed (Levels (By l) first second third) x q = absurd (omega arith)
+is-allowed (Levels None first second third) x q = absurd (omega arith)
+is-allowed (Levels (Some l) first second third) x q = absurd (omega arith)
 
 is-host : (e : Explanation) (x : ℕ) → number_of (answer_by e x) ≡ 11 → e ≡ Host
 is-host Allowed x q = absurd (omega arith)
 is-host Host x q = refl
-is-host (Levels Nobody first second third) x q = absurd (omega arith)
-is-host (Levels (By l) first second third) x q = absurd (omega arith)
+is-host (Levels None first second third) x q = absurd (omega arith)
+is-host (Levels (Some l) first second third) x q = absurd (omega arith)
 
-is-received : (e : Explanation) (x : ℕ) (l : Level) → (number_of (answer_by e x) ≡ 9) × (value_of (answer_by e x) ≡ l.0) → DeniedTo e (By l)
+is-received : (e : Explanation) (x : ℕ) (l : Level) → (number_of (answer_by e x) ≡ 9) × (value_of (answer_by e x) ≡ l.0) → DeniedTo e (Some l)
 is-received Allowed x l q = absurd (omega arith)
 is-received Host x l q = absurd (omega arith)
-is-received (Levels Nobody first second third) x l q = absurd (omega arith)
-is-received (Levels (By m) first second third) x l q =
-    record { first = first; second = second; third = third; is = ap (λ k. Levels (By (level k)) first second third) q.1 }
+is-received (Levels None first second third) x l q = absurd (omega arith)
+is-received (Levels (Some m) first second third) x l q =
+    record { first = first; second = second; third = third; is = ap (λ k. Levels (Some (level k)) first second third) q.1 }
 
-is-unreceived : (e : Explanation) (x : ℕ) → number_of (answer_by e x) ≡ 10 → DeniedTo e Nobody
+is-unreceived : (e : Explanation) (x : ℕ) → number_of (answer_by e x) ≡ 10 → DeniedTo e None
 is-unreceived Allowed x q = absurd (omega arith)
 is-unreceived Host x q = absurd (omega arith)
-is-unreceived (Levels Nobody first second third) x q = record { first = first; second = second; third = third; is = refl }
-is-unreceived (Levels (By l) first second third) x q = absurd (omega arith)
+is-unreceived (Levels None first second third) x q = record { first = first; second = second; third = third; is = refl }
+is-unreceived (Levels (Some l) first second third) x q = absurd (omega arith)
 
 explains : (e : Explanation) (x : ℕ) → Explains (answer_by e x) e
 explains e x = record {
@@ -82,7 +81,7 @@ explains e x = record {
 -- The conditions of an access one after the other, and the explanation: a receiver is one of those that deny.
 in-turn : (found denying host : Bool) (l : ℕ) (first second third : Denial) (x : ℕ) → (found ≡ true → denying ≡ true)
     → cond found (Intercept (level l)) (cond denying (Refused Refusal.NoReceiver) (cond host (Refused Refusal.HostDenies) (Done x)))
-    ≡ answer_by (cond denying (Levels (cond found (By (level l)) Nobody) first second third) (cond host Host Allowed)) x
+    ≡ answer_by (cond denying (Levels (cond found (Some (level l)) None) first second third) (cond host Host Allowed)) x
 in-turn true true host l first second third x h = refl
 in-turn true false host l first second third x h = absurd (false≢true (h refl))
 in-turn false true host l first second third x h = refl
@@ -144,7 +143,7 @@ module _ (s : State) (v : ℕ) (mode : Mode) (p : ℕ) (access : Access) where
   absent t q = rw q
 
   -- The denial of level t in an explanation whose conditions are given.
-  in_place : (denying host : Bool) (r : Receiver) → denied s v mode p access ≡ denying → (t : ℕ)
+  in_place : (denying host : Bool) (r : Option Level) → denied s v mode p access ≡ denying → (t : ℕ)
       → denial_in (cond denying (Levels r (denial_of s v mode p access 1) (denial_of s v mode p access 2) (denial_of s v mode p access 3)) (cond host Host Allowed)) t ≡ denial_of s v mode p access t
   in_place true host r q zero = absent 0 zero-allows
   in_place true host r q (suc zero) = refl

@@ -1,17 +1,17 @@
 -- Why an access is allowed or denied (02, request 3). Who denies, which bit is wanted and who receives the intercept is asked by the
 -- definitions that the access itself is decided by (01, "Memory"). Assumes nothing.
-use Rattle.std.specs.Prelude.{Bool, true, false, cond, ◌&&◌, ℕ, ◌^◌, ltb}
+use Rattle.std.specs.Prelude.{Bool, true, false, cond, ◌&&◌, ℕ, ◌^◌, ltb, Option}
 use Rattle.model.specs.declared.quantity.Access.{Access}
 use Rattle.model.specs.declared.quantity.Mode.{Mode}
 use Rattle.model.specs.Memory.{needed, mbec_counts, denies, denied, receiver, host_denies}
 use Rattle.model.specs.State.{State, level, no_level, active, mask_of}
 use Rattle.explanation.specs.declared.Denial.{Denial}
 use Rattle.explanation.specs.declared.Explanation.{Explanation}
-use Rattle.explanation.specs.declared.Receiver.{Receiver}
+use Rattle.model.specs.declared.quantity.Level.{Level}
 
 -- The receiving level or `none`. A search for a level gives l.
-abbrev pub receiver_by : ℕ → Receiver
-receiver_by l = cond (ltb l no_level) (Receiver.By (level l)) Receiver.Nobody
+abbrev pub receiver_by : ℕ → Option Level
+receiver_by l = cond (ltb l no_level) (Some (level l)) None
 
 -- MBEC is told of a fetch, user or kernel, and of no other access.
 abbrev pub is_fetch : Access → Bool

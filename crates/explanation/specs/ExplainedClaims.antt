@@ -1,6 +1,6 @@
 -- What is proved of the explanation of an access (proofs/Explains.antt), for every state, access and value that a write stores. Assumes
 -- nothing.
-use Rattle.std.specs.Prelude.{◌≡◌, Bool, true, false, ◌↔◌, ℕ, zero, suc, ◌/◌, ◌%◌, ◌^◌, ◌≤◌, ◌<◌}
+use Rattle.std.specs.Prelude.{◌≡◌, Bool, true, false, ◌↔◌, ℕ, zero, suc, ◌/◌, ◌%◌, ◌^◌, ◌≤◌, ◌<◌, Option}
 use Rattle.model.specs.declared.answer.Answer.{Answer}
 use Rattle.model.specs.declared.event.Event.TheVariants.{Made}
 use Rattle.model.specs.declared.quantity.Access.{Access}
@@ -16,11 +16,10 @@ use Rattle.model.specs.WellFormed.{well_formed}
 use Rattle.access_events.specs.Access.{accessed}
 use Rattle.explanation.specs.declared.Denial.{Denial}
 use Rattle.explanation.specs.declared.Explanation.{Explanation}
-use Rattle.explanation.specs.declared.Receiver.{Receiver}
 use Rattle.explanation.specs.Explained.{denial_of, explanation_of}
 
 -- Levels deny, and this is who receives the intercept.
-pub record DeniedTo (e : Explanation) (r : Receiver) : Type 0 where
+pub record DeniedTo (e : Explanation) (r : Option Level) : Type 0 where
   pub first : Denial
   pub second : Denial
   pub third : Denial
@@ -31,8 +30,8 @@ pub record DeniedTo (e : Explanation) (r : Receiver) : Type 0 where
 pub record Explains (a : Answer) (e : Explanation) : Type 0 where
   pub allowed : (e ≡ Explanation.Allowed) ↔ (number_of a ≡ 0)
   pub host : (e ≡ Explanation.Host) ↔ (number_of a ≡ 11)
-  pub received : (l : Level) → DeniedTo e (Receiver.By l) ↔ ((number_of a ≡ 9) × (value_of a ≡ l.0))
-  pub unreceived : DeniedTo e Receiver.Nobody ↔ (number_of a ≡ 10)
+  pub received : (l : Level) → DeniedTo e (Some l) ↔ ((number_of a ≡ 9) × (value_of a ≡ l.0))
+  pub unreceived : DeniedTo e None ↔ (number_of a ≡ 10)
 
 -- The explanation of an access is that of the answer which the access gets.
 abbrev pub AnswerExplained : Type 0

@@ -1,4 +1,5 @@
 -- An access line gets answer 1 exactly where there is no such processor, mode or page. Assumes nothing.
+use Rattle.std.specs.Prelude.{Err, None, Ok, Result, Some}
 use mathlib.Core.Bool.{Bool, true, false, cond, ◌&&◌, false≢true}
 use mathlib.Core.List.{List}
 use mathlib.Core.Path.{◌≡◌, refl}
@@ -22,26 +23,25 @@ use Rattle.model.specs.declared.event.Action.{Action}
 use Rattle.model.specs.declared.event.Action.TheVariants.{Enpart, Envp, Call, Ret, Read, Write, Fetch, Protect, Config, Secure, Flush, Rreg, Wreg, Tpr, Ack, Pstat, Vstat, Caps, Cri, Crm}
 use Rattle.model.specs.declared.event.Event.TheVariants.{Made, Int}
 use Rattle.model.specs.declared.quantity.Access.{Access}
-use Rattle.explanation.specs.declared.Receiver.TheVariants.{Nobody, By}
 use Rattle.model.specs.declared.quantity.Page.{Page}
 use Rattle.model.specs.declared.quantity.Processor.{Processor}
 use Rattle.records.specs.RecordTexts.{ended}
-use Rattle.script.specs.declared.Parsed.{Parsed}
-use Rattle.script.specs.declared.Parsed.TheVariants as parsed
 use Rattle.sheet.specs.Sheets.{Explanation, Allowed, Host, Levels}
 use Rattle.sheet.specs.Verdicts.{refusal}
 use Rattle.inquiry.specs.AskedLines.{ranged_by}
 use Rattle.asked.specs.AskedAccess.{asked_by}
 use Rattle.inquiry.specs.Inquiry.{of_asked, of_line}
 use Rattle.asked.specs.declared.Asked.TheVariants as asked
+use Rattle.model.specs.declared.answer.Refusal.{Refusal}
+use Rattle.model.specs.declared.event.Event.{Event}
 
 -- An answer that has an explanation is not 1.
 not-one : (a : Answer) (e : Explanation) → Explains a e → eqb (number_of a) 1 ≡ false
 not-one a Allowed x = let n = x.allowed.0 refl in ne_eqb (number_of a) 1 (λ one. omega arith)
 not-one a Host x = let n = x.host.0 refl in ne_eqb (number_of a) 1 (λ one. omega arith)
-not-one a (Levels Nobody first second third) x =
+not-one a (Levels None first second third) x =
     let n = x.unreceived.0 (record { first = first; second = second; third = third; is = refl }) in ne_eqb (number_of a) 1 (λ one. omega arith)
-not-one a (Levels (By l) first second third) x =
+not-one a (Levels (Some l) first second third) x =
     let n = (x.received l).0 (record { first = first; second = second; third = third; is = refl }) in ne_eqb (number_of a) 1 (λ one. omega (arith, n))
 
 -- The refusals of an access begin with these three, each of number 1.
@@ -104,35 +104,35 @@ either_way true = refl
 either_way false = refl
 
 module _ (s : State) (w : well_formed s ≡ true) (setup : Setup) (vs : processors s ≡ setup.processors) (ps : pages s ≡ setup.pages) (more : List (List ℕ)) where
-  abbrev Ranged : Parsed → Type 0
+  abbrev Ranged : Result Event Refusal → Type 0
   Ranged said = of_line s said more ≡ of_asked s (ranged_by setup (asked_by said)) more
 
-  nothing-asked : (said : Parsed) → asked_by said ≡ asked.Nothing → Ranged said
+  nothing-asked : (said : Result Event Refusal) → asked_by said ≡ asked.Nothing → Ranged said
   nothing-asked said e = rw e (either_way (eqb (number_of (answered s said).answer) 1))
 
-  ranged-action : (v : Processor) (mode : ℕ) (a : Action) → Ranged (parsed.Event (Made v mode a))
-  ranged-action v mode (Enpart t mbec) = nothing-asked (parsed.Event (Made v mode (Enpart t mbec))) refl
-  ranged-action v mode (Envp u t ip sp cr) = nothing-asked (parsed.Event (Made v mode (Envp u t ip sp cr))) refl
-  ranged-action v mode (Call len) = nothing-asked (parsed.Event (Made v mode (Call len))) refl
-  ranged-action v mode (Ret len) = nothing-asked (parsed.Event (Made v mode (Ret len))) refl
+  ranged-action : (v : Processor) (mode : ℕ) (a : Action) → Ranged (Ok (Made v mode a))
+  ranged-action v mode (Enpart t mbec) = nothing-asked (Ok (Made v mode (Enpart t mbec))) refl
+  ranged-action v mode (Envp u t ip sp cr) = nothing-asked (Ok (Made v mode (Envp u t ip sp cr))) refl
+  ranged-action v mode (Call len) = nothing-asked (Ok (Made v mode (Call len))) refl
+  ranged-action v mode (Ret len) = nothing-asked (Ok (Made v mode (Ret len))) refl
   ranged-action v mode (Read p) = ranged-access s w v mode p setup vs ps more Access.Read 0
   ranged-action v mode (Write p x) = ranged-access s w v mode p setup vs ps more Access.Write x
   ranged-action v mode (Fetch p) = ranged-access s w v mode p setup vs ps more Access.Fetch 0
-  ranged-action v mode (Protect p k) = nothing-asked (parsed.Event (Made v mode (Protect p k))) refl
-  ranged-action v mode (Config g word) = nothing-asked (parsed.Event (Made v mode (Config g word))) refl
-  ranged-action v mode (Secure l word) = nothing-asked (parsed.Event (Made v mode (Secure l word))) refl
-  ranged-action v mode Flush = nothing-asked (parsed.Event (Made v mode Flush)) refl
-  ranged-action v mode (Rreg g r) = nothing-asked (parsed.Event (Made v mode (Rreg g r))) refl
-  ranged-action v mode (Wreg g r x) = nothing-asked (parsed.Event (Made v mode (Wreg g r x))) refl
-  ranged-action v mode (Tpr class) = nothing-asked (parsed.Event (Made v mode (Tpr class))) refl
-  ranged-action v mode Ack = nothing-asked (parsed.Event (Made v mode Ack)) refl
-  ranged-action v mode Pstat = nothing-asked (parsed.Event (Made v mode Pstat)) refl
-  ranged-action v mode Vstat = nothing-asked (parsed.Event (Made v mode Vstat)) refl
-  ranged-action v mode Caps = nothing-asked (parsed.Event (Made v mode Caps)) refl
-  ranged-action v mode (Cri word) = nothing-asked (parsed.Event (Made v mode (Cri word))) refl
-  ranged-action v mode (Crm n mask) = nothing-asked (parsed.Event (Made v mode (Crm n mask))) refl
+  ranged-action v mode (Protect p k) = nothing-asked (Ok (Made v mode (Protect p k))) refl
+  ranged-action v mode (Config g word) = nothing-asked (Ok (Made v mode (Config g word))) refl
+  ranged-action v mode (Secure l word) = nothing-asked (Ok (Made v mode (Secure l word))) refl
+  ranged-action v mode Flush = nothing-asked (Ok (Made v mode Flush)) refl
+  ranged-action v mode (Rreg g r) = nothing-asked (Ok (Made v mode (Rreg g r))) refl
+  ranged-action v mode (Wreg g r x) = nothing-asked (Ok (Made v mode (Wreg g r x))) refl
+  ranged-action v mode (Tpr class) = nothing-asked (Ok (Made v mode (Tpr class))) refl
+  ranged-action v mode Ack = nothing-asked (Ok (Made v mode Ack)) refl
+  ranged-action v mode Pstat = nothing-asked (Ok (Made v mode Pstat)) refl
+  ranged-action v mode Vstat = nothing-asked (Ok (Made v mode Vstat)) refl
+  ranged-action v mode Caps = nothing-asked (Ok (Made v mode Caps)) refl
+  ranged-action v mode (Cri word) = nothing-asked (Ok (Made v mode (Cri word))) refl
+  ranged-action v mode (Crm n mask) = nothing-asked (Ok (Made v mode (Crm n mask))) refl
 
-  pub ranged : (said : Parsed) → Ranged said
-  ranged (parsed.Malformed r) = nothing-asked (parsed.Malformed r) refl
-  ranged (parsed.Event (Made v mode a)) = ranged-action v mode a
-  ranged (parsed.Event (Int u g n)) = nothing-asked (parsed.Event (Int u g n)) refl
+  pub ranged : (said : Result Event Refusal) → Ranged said
+  ranged (Err r) = nothing-asked (Err r) refl
+  ranged (Ok (Made v mode a)) = ranged-action v mode a
+  ranged (Ok (Int u g n)) = nothing-asked (Ok (Int u g n)) refl

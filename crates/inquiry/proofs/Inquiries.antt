@@ -1,7 +1,7 @@
 -- What is written of an input, line by line. Assumes nothing.
+use Rattle.std.specs.Prelude.{None, Some}
 use mathlib.Core.Bool.{true, false}
 use mathlib.Core.List.{List, []}
-use mathlib.Core.Option.{none, some}
 use mathlib.Core.Path.{◌≡◌, refl, sym, ap, ◌∙◌}
 use Prim.Native.Nat.{ℕ, min, ◌+◌, ◌-◌, ◌≤◌, ◌<◌}
 use native.Mathlib.Omega.{arith}
@@ -52,10 +52,10 @@ module _ (e : Explanation) (input : List ℕ) (from : ℕ) where
 module _ (r : Received) (input : List ℕ) (passed : passed_in r input ≡ passed_on (lines input)) where
   pub none_read : r.accepted ≡ false → explained input ≡ ended refusal
   unfolding explained
-  none_read a = let nothing : passed_in r input ≡ none = rw a in ap of_passed (sym passed ∙ nothing)
+  none_read a = let nothing : passed_in r input ≡ None = rw a in ap of_passed (sym passed ∙ nothing)
 
   module _ (a : r.accepted ≡ true) where
-    were-read : passed_on (lines input) ≡ some (record { state = state_in r; rest = lines (drop r.used input) })
+    were-read : passed_on (lines input) ≡ Some (record { state = state_in r; rest = lines (drop r.used input) })
     were-read = sym passed ∙ rw a
 
     explained-by : explained input ≡ of_lines (state_in r) (lines (drop r.used input))

@@ -1,8 +1,8 @@
 -- An input of more than 66,049 bytes is refused: its records are short, so a line behind them is too long, or there are too many.
 -- Assumes nothing.
+use Rattle.std.specs.Prelude.{None, Option, Result, Some}
 use mathlib.Core.Bool.{Bool, true, false}
 use mathlib.Core.List.{List, [], ◌∷◌, ◌++◌}
-use mathlib.Core.Option.{Option, none, some}
 use mathlib.Core.Path.{◌≡◌, refl, ap}
 use Prim.Native.Nat.{ℕ, ◌≤◌, ◌<◌}
 use borrow.Author.Tests.{lt-leb, lt-ltb, ltb-false, ltb-true}
@@ -21,7 +21,6 @@ use Rattle.records.specs.RecordTexts.{ended, record_lines, records_text}
 use Rattle.script.specs.EventForms.{line_event}
 use Rattle.script.specs.LineForms.{said}
 use Rattle.script.specs.Records.{last_line, lines, lines_in}
-use Rattle.script.specs.declared.Parsed.{Parsed}
 use Rattle.sheet.specs.SheetForms.{good_form}
 use Rattle.sheet.specs.Sheets.{Explanation}
 use Rattle.sheet.specs.Verdicts.{refusal, verdict, verdict_lines}
@@ -30,6 +29,8 @@ use Rattle.inquiry.specs.Inquiry.{LongRefused, explained, of_asked, of_line, of_
 use Rattle.asked.specs.declared.Asked.{Asked}
 use Rattle.asked.specs.declared.Asked.TheVariants as asked
 use Rattle.inquiry.proofs.AccessLines.{either_way}
+use Rattle.model.specs.declared.answer.Refusal.{Refusal}
+use Rattle.model.specs.declared.event.Event.{Event}
 
 -- Bytes have no more than their lines, each with its line feed.
 last-long : (rest : List ℕ) → length rest ≤ length (ended (last_line rest))
@@ -61,7 +62,7 @@ refused-with : (s : State) (a : Asked) (more : List (List ℕ)) → ((e : Explan
 refused-with s asked.Nothing more h = refl
 refused-with s (asked.Access v mode p access) more h = h _
 
-refused-line : (s : State) (said : Parsed) (more : List (List ℕ)) → of_asked s (asked_by said) more ≡ ended refusal → of_line s said more ≡ ended refusal
+refused-line : (s : State) (said : Result Event Refusal) (more : List (List ℕ)) → of_asked s (asked_by said) more ≡ ended refusal → of_line s said more ≡ ended refusal
 refused-line s said more h = rw h (either_way (eqb (number_of (answered s said).answer) 1))
 
 -- Many bytes behind the records.
@@ -85,7 +86,7 @@ unfolding explained records_text
 long-refused input long = go (passed_on (lines input)) refl
   where
     go : (o : Option Passed) → passed_on (lines input) ≡ o → of_passed o ≡ ended refusal
-    go none e = refl
-    go (some r) e =
+    go None e = refl
+    go (Some r) e =
         let all : length (ended (lines input)) ≡ length (ended (record_lines r.state ++ r.rest)) = ap (λ (l : List (List ℕ)). length (ended l)) (only-records input r e).these in
         many r.state r.rest (omega (arith, lines_long input, all, ended-append (record_lines r.state) r.rest, read_short input r e))

@@ -1,7 +1,6 @@
 -- What is written of an input that asks why an access is allowed or denied (02, request 3): records, an access line, and perhaps a sheet
 -- that was filled in by hand. Assumes nothing.
-use Rattle.std.specs.Prelude.{cond, List, [], ◌∷◌, ◌≡◌, ℕ, ◌<◌, eqb, length}
-use Rattle.std.proofs.Math.Option.{Option, none, some}
+use Rattle.std.specs.Prelude.{cond, List, [], ◌∷◌, ◌≡◌, ℕ, ◌<◌, eqb, length, None, Option, Result, Some}
 use Rattle.explanation.specs.Explained.{explanation_of}
 use Rattle.listing.specs.Listing.{answered}
 use Rattle.model.specs.Answers.{number_of}
@@ -11,12 +10,13 @@ use Rattle.records.specs.Reading.{Passed, passed_on}
 use Rattle.records.specs.RecordTexts.{ended}
 use Rattle.script.specs.EventForms.{line_event}
 use Rattle.script.specs.Records.{lines}
-use Rattle.script.specs.declared.Parsed.{Parsed}
 use Rattle.sheet.specs.Sheets.{Explanation, sheet_text}
 use Rattle.sheet.specs.Verdicts.{refusal, verdict}
 use Rattle.asked.specs.AskedAccess.{asked_by}
 use Rattle.asked.specs.declared.Asked.{Asked}
 use Rattle.asked.specs.declared.Asked.TheVariants as asked
+use Rattle.model.specs.declared.answer.Refusal.{Refusal}
+use Rattle.model.specs.declared.event.Event.{Event}
 
 -- The sheet of an access; where a sheet follows as the last line, the verdict on it; a refusal where more lines follow.
 abbrev pub sheet_with : Explanation → List (List ℕ) → List ℕ
@@ -29,7 +29,7 @@ abbrev pub of_asked : State → Asked → List (List ℕ) → List ℕ
 of_asked s asked.Nothing more = ended refusal
 of_asked s (asked.Access v mode p access) more = sheet_with (explanation_of s v.0 (mode_of mode) p.0 access) more
 
-abbrev pub of_line : State → Parsed → List (List ℕ) → List ℕ
+abbrev pub of_line : State → Result Event Refusal → List (List ℕ) → List ℕ
 of_line s said more = cond (eqb (number_of (answered s said).answer) 1) (ended refusal) (of_asked s (asked_by said) more)
 
 -- A refusal where the access line is missing.
@@ -39,8 +39,8 @@ of_lines s (line ∷ more) = of_line s (line_event line) more
 
 -- A refusal where records are missing or get answer 1.
 abbrev pub of_passed : Option Passed → List ℕ
-of_passed none = ended refusal
-of_passed (some r) = of_lines r.state r.rest
+of_passed None = ended refusal
+of_passed (Some r) = of_lines r.state r.rest
 
 unfoldable pub explained : List ℕ → List ℕ
 explained input = of_passed (passed_on (lines input))

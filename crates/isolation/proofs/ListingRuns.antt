@@ -1,5 +1,6 @@
 -- Demand 3 down to the listing, line by line: after each event the two states are alike again, and so the level column is the same.
 -- Assumes nothing.
+use Rattle.std.specs.Prelude.{Err, Ok, Result}
 use mathlib.Core.Path.{◌≡◌, refl, sym, ap, ◌∙◌}
 use mathlib.Core.Bool.{true}
 use mathlib.Core.List.{List, [], ◌∷◌, ◌++◌}
@@ -17,11 +18,10 @@ use Rattle.model.proofs.Moves.{closed-kept, step-moved}
 use Rattle.model.proofs.Whole.{active-hide}
 use Rattle.listing.specs.Listing.{answered, later_records, number_after, record_of}
 use Rattle.script.specs.EventForms.{line_event}
-use Rattle.script.specs.declared.Parsed.{Parsed}
-use Rattle.script.specs.declared.Parsed.TheVariants as parsed
 use Rattle.isolation.specs.Isolation.{Alike, Isolated, every_level, quiet}
 use Rattle.isolation.specs.Listings.{ListingIsolated, and_event, events_of}
 use Rattle.isolation.proofs.Runs.{isolation}
+use Rattle.model.specs.declared.answer.Refusal.{Refusal}
 
 -- One event in both states.
 record Stepped (K : ℕ) (s t : State) (e : Event) : Type 0 where
@@ -52,13 +52,13 @@ abbrev Rest : ℕ → ℕ → List (List ℕ) → Type 0
 Rest K number lines = (s t : State) → well_formed s ≡ true → well_formed t ≡ true → Alike K s s t → quiet K s (events_of lines) ≡ true → later_records number s lines ≡ later_records number t lines
 
 -- One line more.
-line_same : (K number : ℕ) (said : Parsed) (more : List (List ℕ)) → 1 ≤ K → Rest K (number_after number) more
+line_same : (K number : ℕ) (said : Result Event Refusal) (more : List (List ℕ)) → 1 ≤ K → Rest K (number_after number) more
     → (s t : State) → well_formed s ≡ true → well_formed t ≡ true → Alike K s s t → quiet K s (and_event said (events_of more)) ≡ true
     → record_of number (answered s said) ++ later_records (number_after number) (answered s said).next more
     ≡ record_of number (answered t said) ++ later_records (number_after number) (answered t said).next more
 unfolding quiet
-line_same K number (parsed.Malformed refusal) more k rest s t ws wt plain q = rw (rest s t ws wt plain q)
-line_same K number (parsed.Event e) more k rest s t ws wt plain q =
+line_same K number (Err refusal) more k rest s t ws wt plain q = rw (rest s t ws wt plain q)
+line_same K number (Ok e) more k rest s t ws wt plain q =
     let st = stepped K s t e k ws wt plain (and_left (quiet_maker K s (maker e)) _ q) in
     rw (st.same, active-same K (step s e).next (step t e).next (processor_of e).0 st.alike, rest (step s e).next (step t e).next (step_keeps s e ws) (step_keeps t e wt) st.alike (and_right (quiet_maker K s (maker e)) _ q))
 

@@ -1,18 +1,17 @@
 -- Demand 3 down to what a user sees: the listing of a script's later lines. Assumes nothing.
-use Rattle.std.specs.Prelude.{◌≡◌, true, List, [], ◌∷◌, ℕ, ◌≤◌}
+use Rattle.std.specs.Prelude.{◌≡◌, true, List, [], ◌∷◌, ℕ, ◌≤◌, Err, Ok, Result}
 use Rattle.model.specs.declared.event.Event.{Event}
 use Rattle.model.specs.State.{State}
 use Rattle.model.specs.WellFormed.{well_formed}
 use Rattle.listing.specs.Listing.{later_records}
 use Rattle.script.specs.EventForms.{line_event}
-use Rattle.script.specs.declared.Parsed.{Parsed}
-use Rattle.script.specs.declared.Parsed.TheVariants as parsed
 use Rattle.isolation.specs.Isolation.{Alike, quiet}
+use Rattle.model.specs.declared.answer.Refusal.{Refusal}
 
 -- The events of lines after the first: a malformed line has none.
-abbrev pub and_event : Parsed → List Event → List Event
-and_event (parsed.Malformed refusal) more = more
-and_event (parsed.Event e) more = e ∷ more
+abbrev pub and_event : Result Event Refusal → List Event → List Event
+and_event (Err refusal) more = more
+and_event (Ok e) more = e ∷ more
 
 unfoldable pub events_of : List (List ℕ) → List Event
 events_of [] = []

@@ -1,5 +1,6 @@
 -- What is shown of the answer to an event, as code has it: the level column is read from the processor's place in the next state. Assumes
 -- nothing.
+use Rattle.std.specs.Prelude.{Err, Ok}
 use mathlib.Core.Bool.{Bool, true, false, cond}
 use mathlib.Core.Path.{◌≡◌, refl, ap, ◌∙◌}
 use Prim.Native.Nat.{ℕ, ◌%◌}
@@ -16,7 +17,6 @@ use Rattle.model.specs.declared.answer.Answer.{Answer}
 use Rattle.model.specs.declared.event.Event.{Event}
 use Rattle.model.specs.declared.quantity.Level.{Level}
 use Rattle.model.specs.declared.quantity.Processor.{Processor}
-use Rattle.script.specs.declared.Parsed.TheVariants as parsed
 use Rattle.listing.specs.Answer.{level_on, level_shown, shown_by, shown_of}
 use Rattle.listing.specs.Listing.{answered}
 
@@ -43,7 +43,7 @@ level-column number active = go (eqb number 1)
 pub event-shown : (s next : State) (e : Event) (a : Answer) → record { answer = a; next = next } ≡ step s e
     → (v : Processor) → v ≡ processor_of e
     → (on : Level) → on ≡ level_on v next.machine.processors (get_or next.machine.vps (v.0 % 4) past_vp).active
-    → shown_of a on ≡ shown_by (answered s (parsed.Event e))
+    → shown_of a on ≡ shown_by (answered s (Ok e))
 event-shown s next e a stepped v here on there =
     let column : level_shown (number_of a) on ≡ level (level_column (record { answer = a; next = next }) (processor_of e)) =
     rw (there, active-read next v, ← here) (level-column (number_of a) (active next v.0)) in

@@ -1,7 +1,6 @@
 -- The listing of a whole script (01, "Script and listing"): its lines, what each is answered, and the record of each answer.
 -- Assumes nothing.
-use Rattle.std.specs.Prelude.{cond, List, [], ◌∷◌, ◌++◌, ℕ, ◌+◌, ◌%◌, ◌^◌}
-use Rattle.std.proofs.Math.Option.{Option, none, some}
+use Rattle.std.specs.Prelude.{cond, List, [], ◌∷◌, ◌++◌, ℕ, ◌+◌, ◌%◌, ◌^◌, Err, None, Ok, Option, Result, Some}
 use Rattle.model.specs.Answers.{number_of, value_of}
 use Rattle.model.specs.Fresh.{admissible, fresh}
 use Rattle.model.specs.LevelColumn.{level_column, processor_of}
@@ -12,11 +11,10 @@ use Rattle.script.specs.EventForms.{line_event}
 use Rattle.script.specs.First.{line_first}
 use Rattle.script.specs.ListingLine.{listing_line}
 use Rattle.script.specs.Records.{lines}
-use Rattle.script.specs.declared.Parsed.{Parsed}
-use Rattle.script.specs.declared.Parsed.TheVariants as parsed
-use Rattle.script.specs.declared.Start.{Start}
-use Rattle.script.specs.declared.Start.TheVariants as start
 use Rattle.model.specs.Step.{step}
+use Rattle.model.specs.declared.answer.Refusal.{Refusal}
+use Rattle.model.specs.declared.event.Event.{Event}
+use Rattle.model.specs.declared.machine.FirstLine.{FirstLine}
 
 -- What a line after the first is answered, its level column, and the next state.
 pub record Answered : Type 0 where
@@ -25,9 +23,9 @@ pub record Answered : Type 0 where
   pub next : State
 
 -- A malformed line gets its refusal, answer 1, and the state stays; an event gets what the model's step gives.
-abbrev pub answered : State → Parsed → Answered
-answered s (parsed.Malformed refusal) = record { answer = Refused refusal; level = 0; next = s }
-answered s (parsed.Event e) =
+abbrev pub answered : State → Result Event Refusal → Answered
+answered s (Err refusal) = record { answer = Refused refusal; level = 0; next = s }
+answered s (Ok e) =
     record { answer = (step s e).answer; level = level_column (step s e) (processor_of e); next = (step s e).next }
 
 -- The record of an answer.
@@ -45,9 +43,9 @@ later_records number s (line ∷ more) =
     record_of number (answered s (line_event line)) ++ later_records (number_after number) (answered s (line_event line)).next more
 
 -- The state that the first line describes: none where the line is malformed or not admissible.
-abbrev pub state_by : Start → Option State
-state_by (start.Malformed refusal) = none
-state_by (start.First f) = cond (admissible f) (some (fresh f)) none
+abbrev pub state_by : Result FirstLine Refusal → Option State
+state_by (Err refusal) = None
+state_by (Ok f) = cond (admissible f) (Some (fresh f)) None
 
 -- The records of the first line: done, and refused.
 abbrev pub first_done : List ℕ
@@ -58,8 +56,8 @@ first_refused = listing_line 0 1 0 0
 
 -- After a refused first line the program stops.
 abbrev pub listing_from : Option State → List (List ℕ) → List ℕ
-listing_from none more = first_refused
-listing_from (some s) more = first_done ++ later_records 1 s more
+listing_from None more = first_refused
+listing_from (Some s) more = first_done ++ later_records 1 s more
 
 -- An empty input is refused as well.
 abbrev pub listing_of : List (List ℕ) → List ℕ

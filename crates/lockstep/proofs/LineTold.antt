@@ -1,4 +1,5 @@
 -- What the code has of a line that was answered on the words of a machine, against the definitions. Assumes nothing.
+use Rattle.std.specs.Prelude.{Err, Ok}
 use mathlib.Core.Bool.{Bool, true, false, cond}
 use mathlib.Core.List.{List, ◌++◌, append_assoc}
 use mathlib.Core.Path.{◌≡◌, refl, sym, ap, ◌∙◌}
@@ -24,7 +25,6 @@ use Rattle.model.specs.declared.machine.Setup.{Setup}
 use Rattle.model.specs.declared.quantity.Level.{Level}
 use Rattle.model.specs.declared.quantity.Processor.{Processor}
 use Rattle.processor.specs.Record.{record_words, part}
-use Rattle.script.specs.declared.Parsed.TheVariants as said
 use Rattle.state.specs.Lent.{lent}
 use Rattle.lockstep.specs.Lockstep.{reply_by, stepped_by}
 use Rattle.lockstep.specs.LockstepParts.{AnsweredIn, reply_of}
@@ -70,13 +70,13 @@ module _ (ws : List ℕ) (room : machine_words ≤ length ws) (e : Event) (a : A
         ∙ ap (λ (w : List ℕ). sets w 6 (levels' ++ masks' ++ flat vps'))
         (rw count (came-back ws words' (lent_words ws) (omega arith) words-length))
 
-    told-words : after ≡ (stepped_by ws (said.Event e)).words
+    told-words : after ≡ (stepped_by ws (Ok e)).words
     told-words =
         stored-words
         ∙ state-words ws levels' masks' vps' words' sizes (setup_in ws)
         ∙ ap (λ (o : Outcome). sets ws 6 (parts_of o.next)) event-done
 
-    told-state : state_in after ≡ (stepped_by ws (said.Event e)).state
+    told-state : state_in after ≡ (stepped_by ws (Ok e)).state
     told-state =
         ap state_in stored-words
         ∙ state-read ws levels' masks' vps' words' sizes room (lent_words ws) few words-length refl
@@ -84,9 +84,9 @@ module _ (ws : List ℕ) (room : machine_words ≤ length ws) (e : Event) (a : A
 
     told-reply : (v : Processor) → v ≡ processor_of e
         → (on : Level) → on ≡ level_on v next.machine.processors (get_or next.machine.vps (v.0 % 4) past_vp).active
-        → reply_of a on ≡ (stepped_by ws (said.Event e)).reply
+        → reply_of a on ≡ (stepped_by ws (Ok e)).reply
     told-reply v here on there =
-        let r = reply_by (answered (state_in ws) (said.Event e)) in
+        let r = reply_by (answered (state_in ws) (Ok e)) in
         ap (λ (x : Shown). record { answer = x.answer; value = x.value; level = x.level; reason = reason_number a })
         (event-shown (state_in ws) next e a event-done v here on there)
         ∙ ap (λ (o : Outcome). record { answer = r.answer; value = r.value; level = r.level; reason = reason_number o.answer })
@@ -94,7 +94,7 @@ module _ (ws : List ℕ) (room : machine_words ≤ length ws) (e : Event) (a : A
 
     pub event-told : (v : Processor) → v ≡ processor_of e
         → (on : Level) → on ≡ level_on v next.machine.processors (get_or next.machine.vps (v.0 % 4) past_vp).active
-        → (r : Reply) → r ≡ reply_of a on → AnsweredIn (stepped_by ws (said.Event e)) r after
+        → (r : Reply) → r ≡ reply_of a on → AnsweredIn (stepped_by ws (Ok e)) r after
     event-told v here on there r is =
         record { reply = is ∙ told-reply v here on there; words = told-words; state = told-state }
 
@@ -126,7 +126,7 @@ module _ (ws : List ℕ) (room : machine_words ≤ length ws) where
       (at fourth_at record_words (omega arith))
 
 -- A malformed line: the words stay.
-pub malformed-told : (ws : List ℕ) → machine_words ≤ length ws → (refusal : Refusal) (r : Reply) → r ≡ reply_of (Refused refusal) (level 0) → AnsweredIn (stepped_by ws (said.Malformed refusal)) r ws
+pub malformed-told : (ws : List ℕ) → machine_words ≤ length ws → (refusal : Refusal) (r : Reply) → r ≡ reply_of (Refused refusal) (level 0) → AnsweredIn (stepped_by ws (Err refusal)) r ws
 malformed-told ws room refusal r is = record {
   reply =
       is

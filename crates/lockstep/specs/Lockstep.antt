@@ -1,6 +1,6 @@
 -- A machine opened by a first line, and one event line on it, with what is told of the answer (01, "Script and listing"). Nothing changes where
 -- a slice is too short. Assumes nothing.
-use Rattle.std.specs.Prelude.{cond, List, [], ◌∷◌, ℕ, ltb, length}
+use Rattle.std.specs.Prelude.{cond, List, [], ◌∷◌, ℕ, ltb, length, Err, Ok, Result}
 use Rattle.std.proofs.lemmas.List.Edits.{sets}
 use Rattle.listing.specs.Listing.{Answered, answered}
 use Rattle.model.specs.Answers.{number_of, value_of}
@@ -8,12 +8,12 @@ use Rattle.model.specs.Fresh.{admissible, fresh}
 use Rattle.model.specs.State.{State, level}
 use Rattle.script.specs.EventForms.{line_event}
 use Rattle.script.specs.First.{line_first}
-use Rattle.script.specs.declared.Parsed.{Parsed}
-use Rattle.script.specs.declared.Start.{Start}
-use Rattle.script.specs.declared.Start.TheVariants as start
 use Rattle.lockstep.specs.MachineWords.{levels_at, machine_words, parts_of, state_in, words_of}
 use Rattle.lockstep.specs.ReasonNumbers.{not_admissible, no_reason, reason_number, refusal_reason, short_slice}
 use Rattle.lockstep.specs.declared.Reply.{Reply}
+use Rattle.model.specs.declared.answer.Refusal.{Refusal}
+use Rattle.model.specs.declared.event.Event.{Event}
+use Rattle.model.specs.declared.machine.FirstLine.{FirstLine}
 
 -- A reason, the words after it, and the state that they stand for.
 pub record Opened : Type 0 where
@@ -25,9 +25,9 @@ abbrev pub unopened : ℕ → List ℕ → Opened
 unopened reason ws = record { reason = reason; words = ws; state = state_in ws }
 
 -- The words of the fresh machine, or the reason why there is none.
-abbrev pub opened_by : List ℕ → Start → Opened
-opened_by ws (start.Malformed refusal) = unopened (refusal_reason refusal) ws
-opened_by ws (start.First f) =
+abbrev pub opened_by : List ℕ → Result FirstLine Refusal → Opened
+opened_by ws (Err refusal) = unopened (refusal_reason refusal) ws
+opened_by ws (Ok f) =
     cond (admissible f) (record { reason = no_reason; words = sets ws 0 (words_of (fresh f)); state = fresh f }) (unopened not_admissible ws)
 
 unfoldable pub opened : List ℕ → List ℕ → Opened
@@ -56,7 +56,7 @@ abbrev pub unstepped : List ℕ → Stepped
 unstepped ws = record { reply = too_short; words = ws; state = state_in ws }
 
 -- The state of the words makes the step. The words of the setup stay, and so do those beyond the pages.
-abbrev pub stepped_by : List ℕ → Parsed → Stepped
+abbrev pub stepped_by : List ℕ → Result Event Refusal → Stepped
 stepped_by ws p =
     let a = answered (state_in ws) p in
     record { reply = reply_by a; words = sets ws levels_at (parts_of a.next); state = a.next }

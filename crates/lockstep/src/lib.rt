@@ -2,7 +2,7 @@
 // So other code can run beside the model event by event. Every public function takes any arguments.
 #![tactic(auto)]
 
-ghost use Rattle.std.specs.Prelude.{true, ◌≡◌, ◌≤◌, length};
+ghost use Rattle.std.specs.Prelude.{true, ◌≡◌, ◌≤◌, length, Err, Ok};
 ghost use Rattle.std.proofs.lemmas.List.Edits.{sets};
 ghost use Rattle.lockstep.specs.Lockstep.{opened, shown_after, shown_by, shown_words};
 ghost use Rattle.lockstep.specs.Lockstep.{stepped, stepped_by, stepped_in};
@@ -10,7 +10,6 @@ ghost use Rattle.lockstep.specs.LockstepParts.{AnsweredIn, OpenedAs, reply_of};
 ghost use Rattle.lockstep.specs.MachineWords.{machine_words, state_in};
 ghost use Rattle.model.specs.Fresh.{admissible as admissible_line};
 ghost use Rattle.script.specs.EventForms.{line_event};
-ghost use Rattle.script.specs.declared.Parsed.TheVariants as said;
 
 use crate::machine_words::WORDS;
 use crate::reason_number::{NO_REASON, NOT_ADMISSIBLE, SHORT_SLICE, reason_number, refusal_reason};
@@ -100,7 +99,7 @@ fn told(answer: Answer, active: Level) -> Reply
 // Answers an event on the words of a machine. They are the caller's: whether their state is well formed is asked at every step.
 fn answer_event(machine: &mut [u64], event: Event) -> Reply
     requires { machine_words ≤ length machine.old }
-    ensures { AnsweredIn (stepped_by machine.old (said.Event event)) result machine.new }
+    ensures { AnsweredIn (stepped_by machine.old (Ok event)) result machine.new }
 {
     let setup = machine_words::setup_in(machine);
     let mut levels = machine_words::levels_in(machine);

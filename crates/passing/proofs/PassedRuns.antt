@@ -1,5 +1,6 @@
 -- A run from the state that was read back goes as one from the state that was saved: they differ in what is no part of a state, and a step
 -- commutes with hiding. Assumes nothing.
+use Rattle.std.specs.Prelude.{Err, Ok, Result}
 use mathlib.Core.Path.{◌≡◌, refl}
 use mathlib.Core.Bool.{Bool, true, false, ◌||◌, false≢true}
 use mathlib.Core.List.{List, [], ◌∷◌}
@@ -24,10 +25,9 @@ use Rattle.records.specs.Values.{plain}
 use Rattle.records.proofs.SameBytes.{read_back}
 use Rattle.script.specs.Records.{lines}
 use Rattle.script.specs.EventForms.{line_event}
-use Rattle.script.specs.declared.Parsed.{Parsed}
-use Rattle.script.specs.declared.Parsed.TheVariants as parsed
 use Rattle.passing.specs.Passing.{later_state, resumed}
 use Rattle.passing.specs.PassingClaims.{Numbered, Passing, TwoParts, numbered, told, told_by}
+use Rattle.model.specs.declared.answer.Refusal.{Refusal}
 
 pub numbered-records : Numbered
 unfolding later_records numbered told
@@ -62,12 +62,12 @@ record Goes (s : State) (lines : List (List ℕ)) : Type 0 where
   state : later_state (plain s) lines ≡ plain (later_state s lines)
 
 -- What is answered to one line, and what follows.
-goes-line : (s : State) (said : Parsed) (more : List (List ℕ)) → well_formed s ≡ true
+goes-line : (s : State) (said : Result Event Refusal) (more : List (List ℕ)) → well_formed s ≡ true
     → ((t : State) → well_formed t ≡ true → Goes t more)
     → (told_by (answered (plain s) said) ∷ told (answered (plain s) said).next more ≡ told_by (answered s said) ∷ told (answered s said).next more)
     × (later_state (answered (plain s) said).next more ≡ plain (later_state (answered s said).next more))
-goes-line s (parsed.Malformed refusal) more w rest = let r = rest s w in (rw r.records, r.state)
-goes-line s (parsed.Event e) more w rest =
+goes-line s (Err refusal) more w rest = let r = rest s w in (rw r.records, r.state)
+goes-line s (Ok e) more w rest =
     let r = rest (step s e).next (step_keeps s e w) in
     let on : active (plain (step s e).next) (processor_of e).0 ≡ active (step s e).next (processor_of e).0 = unfold plain in active-hide 4 (λ l. false) (λ p. false) (step s e).next (processor_of e).0 in
     let same : step (plain s) e ≡ record { answer = (step s e).answer; next = plain (step s e).next } = unfold plain in plain_step s e w in

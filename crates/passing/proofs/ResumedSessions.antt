@@ -1,7 +1,7 @@
 -- A session that begins with records: what it is given, and what it writes. Assumes nothing.
+use Rattle.std.specs.Prelude.{None, Option, Some}
 use mathlib.Core.Bool.{Bool, true, false}
 use mathlib.Core.List.{List, [], ◌∷◌, ◌++◌, append-nil}
-use mathlib.Core.Option.{Option, none, some}
 use mathlib.Core.Path.{◌≡◌, refl, sym, ap, ◌∙◌}
 use Prim.Native.Nat.{ℕ, min, ◌+◌, ◌≤◌, ◌<◌}
 use borrow.Author.Tests.{leb-true, leb-false}
@@ -55,7 +55,7 @@ unfolding lines lines_in
 no_lines = refl
 
 -- What follows accepted records, in bytes.
-pub rest_of : (input : List ℕ) (r : Passed) → passed_on (lines input) ≡ some r
+pub rest_of : (input : List ℕ) (r : Passed) → passed_on (lines input) ≡ Some r
     → lines (drop (min (length (records_text r.state)) (length input)) input) ≡ r.rest
 unfolding records_text
 rest_of input r h = go (leb (length (records_text r.state)) (length input)) refl
@@ -71,7 +71,7 @@ rest_of input r h = go (leb (length (records_text r.state)) (length input)) refl
         let within : n ≤ length input = leb-true n (length input) e in
         let b : Begins input (records_text r.state) = begins input (record_lines r.state) r.rest these within in
         let count : min n (length input) ≡ n = omega arith in
-        let same : some r ≡ some (record { state = r.state; rest = lines b.tail }) =
+        let same : Some r ≡ Some (record { state = r.state; rest = lines b.tail }) =
         sym h ∙ ap (λ (l : List ℕ). passed_on (lines l)) b.same ∙ accepts input r h b.tail in
         ap (λ (k : ℕ). lines (drop k input)) count
         ∙ ap (λ (l : List ℕ). lines (drop n l)) b.same
@@ -80,9 +80,9 @@ rest_of input r h = go (leb (length (records_text r.state)) (length input)) refl
     go false e =
         let short : length input < n = leb-false n (length input) e in
         let count : min n (length input) ≡ length input = omega arith in
-        let none : r.rest ≡ [] = none-ended r.rest
+        let None : r.rest ≡ [] = none-ended r.rest
         (omega (arith, lines-ended input, ap (λ (l : List (List ℕ)). length (ended l)) these, ended-append (record_lines r.state) r.rest)) in
-        ap (λ (k : ℕ). lines (drop k input)) count ∙ ap lines (drop-length input) ∙ no_lines ∙ sym none
+        ap (λ (k : ℕ). lines (drop k input)) count ∙ ap lines (drop-length input) ∙ no_lines ∙ sym None
 
 -- What a session writes that goes on from line 1, and one that has stopped.
 later-text : (s : State) (script : List ℕ) → finished (consumed (later 1 s []) script) ≡ later_records 1 s (lines script)
@@ -94,12 +94,12 @@ unfolding consumed
 stopped-text script = stopped-finished (lines_in script).complete (lines_in script).rest
 
 -- The records are refused, or accepted with the lines that follow.
-refused-text : (start more : List ℕ) → passed_on (lines start) ≡ none → resumed_text start more ≡ first_refused
+refused-text : (start more : List ℕ) → passed_on (lines start) ≡ None → resumed_text start more ≡ first_refused
 unfolding opened
 refused-text start more e =
     rw e (ap (λ (l : List ℕ). first_refused ++ l) (stopped-text (drop (length start) start ++ more)) ∙ append-nil first_refused)
 
-accepted-text : (start more : List ℕ) (r : Passed) → passed_on (lines start) ≡ some r
+accepted-text : (start more : List ℕ) (r : Passed) → passed_on (lines start) ≡ Some r
     → resumed_text start more ≡ first_done ++ later_records 1 r.state (lines (drop (min (length (records_text r.state)) (length start)) start ++ more))
 unfolding opened
 accepted-text start more r e =
@@ -110,8 +110,8 @@ unfolding resumed
 resumed-whole input = go (passed_on (lines input)) refl
   where
     go : (o : Option Passed) → passed_on (lines input) ≡ o → resumed_text input [] ≡ resumed_from o
-    go none e = refused-text input [] e
-    go (some r) e =
+    go None e = refused-text input [] e
+    go (Some r) e =
         let rest = drop (min (length (records_text r.state)) (length input)) input in
         accepted-text input [] r e
         ∙ ap (λ (l : List (List ℕ)). first_done ++ later_records 1 r.state l) (ap lines (append-nil rest) ∙ rest_of input r e)
@@ -121,8 +121,8 @@ unfolding resumed
 resumed-begun start more big = go (passed_on (lines start)) refl ∙ sym (ap resumed_from (read-prefix start more big))
   where
     go : (o : Option Passed) → passed_on (lines start) ≡ o → resumed_text start more ≡ resumed_from (goes_on start more (passed_on (lines start)))
-    go none e = rw e (refused-text start more e)
-    go (some r) e =
+    go None e = rw e (refused-text start more e)
+    go (Some r) e =
         let n = length (records_text r.state) in
         let all : min n (length start) ≡ n = omega (arith, read_short start r e) in
         rw e (accepted-text start more r e ∙ ap (λ (k : ℕ). first_done ++ later_records 1 r.state (lines (drop k start ++ more))) all)
@@ -132,12 +132,12 @@ resumed-session = record { whole = resumed-whole; begun = resumed-begun }
 
 -- What was read, and the session that begins with it.
 module _ (r : Received) (input : List ℕ) (passed : passed_in r input ≡ passed_on (lines input)) where
-  pub opened-refused : r.accepted ≡ false → opened input ≡ opened_by input none
+  pub opened-refused : r.accepted ≡ false → opened input ≡ opened_by input None
   unfolding opened
-  opened-refused a = let nothing : passed_in r input ≡ none = rw a in ap (opened_by input) (sym passed ∙ nothing)
+  opened-refused a = let nothing : passed_in r input ≡ None = rw a in ap (opened_by input) (sym passed ∙ nothing)
 
   module _ (a : r.accepted ≡ true) where
-    accepted : passed_on (lines input) ≡ some (record { state = state_in r; rest = lines (drop r.used input) })
+    accepted : passed_on (lines input) ≡ Some (record { state = state_in r; rest = lines (drop r.used input) })
     accepted = sym passed ∙ rw a
 
     pub opened-done : Used r input → opened input ≡ record { progress = later 1 (state_in r) []; used = r.used; text = first_done }

@@ -1,8 +1,8 @@
 -- What a session that has used a script holds: the state after it, which is well formed, or nothing where the first line is bad. So what is
 -- saved of it is what saving the script gives. Assumes nothing.
+use Rattle.std.specs.Prelude.{Err, None, Ok, Option, Result, Some}
 use mathlib.Core.Bool.{Bool, true, false, cond, false≢true}
 use mathlib.Core.List.{List, [], ◌∷◌, ◌++◌}
-use mathlib.Core.Option.{Option, none, some}
 use mathlib.Core.Path.{◌≡◌, refl, sym, ap, ◌∙◌}
 use Prim.Native.Nat.{ℕ, ◌+◌, ◌≤◌}
 use native.Mathlib.Nat.{zero-add}
@@ -26,16 +26,15 @@ use Rattle.script.specs.Bytes.{same}
 use Rattle.script.specs.LineForms.{among, fields, numbers_in, said}
 use Rattle.script.specs.ListingLine.{listing_line, longest_record}
 use Rattle.script.specs.Records.{last_line, lines, lines_in}
-use Rattle.script.specs.declared.Parsed.{Parsed}
-use Rattle.script.specs.declared.Parsed.TheVariants as parsed
-use Rattle.script.specs.declared.Start.{Start}
-use Rattle.script.specs.declared.Start.TheVariants as start
 use Rattle.session.proofs.Ending.{ended-kept}
 use Rattle.session.proofs.WholeListing.{last-bytes, last-kept}
 use Rattle.session.specs.Session.{Bounds, Ended, begun, consumed, consumed_lines, ended, first, last_ended, later, stopped}
 use Rattle.transfer.specs.Sent.{sent_text}
 use Rattle.passing.specs.Passing.{later_state, saved, saved_from, saved_of}
 use Rattle.passing.specs.PassingSessions.{SavedSession, saved_text}
+use Rattle.model.specs.declared.answer.Refusal.{Refusal}
+use Rattle.model.specs.declared.event.Event.{Event}
+use Rattle.model.specs.declared.machine.FirstLine.{FirstLine}
 
 -- The text that is sent of a state has room in a buffer of 64 KB.
 pub sent-at-most : (s : State) → length (sent_text s) ≤ longest_text
@@ -67,9 +66,9 @@ sent-in-room s out {size} {last} n e f =
     (wrote, (written, written-within out (sent_text s) (omega arith) (omega (arith, sent-at-most s)) wrote written))
 
 -- A line keeps a state well formed, and so do many.
-line-keeps : (s : State) (said : Parsed) → well_formed s ≡ true → well_formed (answered s said).next ≡ true
-line-keeps s (parsed.Malformed refusal) w = w
-line-keeps s (parsed.Event e) w = step_keeps s e w
+line-keeps : (s : State) (said : Result Event Refusal) → well_formed s ≡ true → well_formed (answered s said).next ≡ true
+line-keeps s (Err refusal) w = w
+line-keeps s (Ok e) w = step_keeps s e w
 
 later-keeps : (s : State) (ls : List (List ℕ)) → well_formed s ≡ true → well_formed (later_state s ls) ≡ true
 unfolding later_state
@@ -91,11 +90,11 @@ after-stopped [] rest = refl
 after-stopped (line ∷ ls) rest = after-stopped ls rest
 
 -- A state that a first line describes is well formed, and so is the one after the lines that follow it.
-begun-formed : (f : Start) (s : State) → state_by f ≡ some s → well_formed s ≡ true
-begun-formed (start.Malformed r) s e = absurd (false≢true cc)
-begun-formed (start.First f) s e = go (admissible f) refl e
+begun-formed : (f : Result FirstLine Refusal) (s : State) → state_by f ≡ Some s → well_formed s ≡ true
+begun-formed (Err r) s e = absurd (false≢true cc)
+begun-formed (Ok f) s e = go (admissible f) refl e
   where
-    go : (b : Bool) → admissible f ≡ b → cond b (some (fresh f)) none ≡ some s → well_formed s ≡ true
+    go : (b : Bool) → admissible f ≡ b → cond b (Some (fresh f)) None ≡ Some s → well_formed s ≡ true
     go true a h = let same : fresh f ≡ s = cc in rw same at (fresh-well-formed f a)
     go false a h = absurd (false≢true cc)
 
@@ -103,16 +102,16 @@ sent-records : (s : State) → well_formed s ≡ true → sent_text s ≡ record
 unfolding sent_text
 sent-records s w = rw w
 
-from_first : (o : Option State) → ((s : State) → o ≡ some s → well_formed s ≡ true) → (ls : List (List ℕ)) (rest : List ℕ)
+from_first : (o : Option State) → ((s : State) → o ≡ Some s → well_formed s ≡ true) → (ls : List (List ℕ)) (rest : List ℕ)
     → saved_text (last_ended (consumed_lines (begun o).progress ls rest).progress).progress ≡ saved_from o (ls ++ last_line rest)
-from_first none w ls rest = after-stopped ls rest
-from_first (some s) w ls rest = after-later ls rest 1 s ∙ sent-records (later_state s (ls ++ last_line rest)) (later-keeps s (ls ++ last_line rest) (w s refl))
+from_first None w ls rest = after-stopped ls rest
+from_first (Some s) w ls rest = after-later ls rest 1 s ∙ sent-records (later_state s (ls ++ last_line rest)) (later-keeps s (ls ++ last_line rest) (w s refl))
 
 -- The first line alone, where it lacks its line feed, and of an empty input.
-only-first : (o : Option State) → ((s : State) → o ≡ some s → well_formed s ≡ true) → saved_text (begun o).progress ≡ saved_from o []
+only-first : (o : Option State) → ((s : State) → o ≡ Some s → well_formed s ≡ true) → saved_text (begun o).progress ≡ saved_from o []
 unfolding later_state
-only-first none w = refl
-only-first (some s) w = sent-records s (w s refl)
+only-first None w = refl
+only-first (Some s) w = sent-records s (w s refl)
 
 saved-lines : (ls : List (List ℕ)) (rest : List ℕ)
     → saved_text (last_ended (consumed_lines (first []) ls rest).progress).progress ≡ saved_of (ls ++ last_line rest)

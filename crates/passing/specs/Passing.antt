@@ -1,6 +1,5 @@
 -- What saving after a script writes, and what resuming writes (02, request 2). Assumes nothing.
-use Rattle.std.specs.Prelude.{List, [], ◌∷◌, ◌++◌, ℕ}
-use Rattle.std.proofs.Math.Option.{Option, none, some}
+use Rattle.std.specs.Prelude.{List, [], ◌∷◌, ◌++◌, ℕ, None, Option, Some}
 use Rattle.model.specs.State.{State}
 use Rattle.listing.specs.Listing.{answered, first_done, first_refused, later_records, state_by}
 use Rattle.records.specs.Reading.{Passed, passed_on}
@@ -16,8 +15,8 @@ later_state s (line ∷ more) = later_state (answered s (line_event line)).next 
 
 -- Saving writes the records of the state after a script. Where the first line is bad, or the input is empty, it writes the refusal line.
 abbrev pub saved_from : Option State → List (List ℕ) → List ℕ
-saved_from none more = first_refused
-saved_from (some s) more = records_text (later_state s more)
+saved_from None more = first_refused
+saved_from (Some s) more = records_text (later_state s more)
 
 abbrev pub saved_of : List (List ℕ) → List ℕ
 saved_of [] = first_refused
@@ -28,8 +27,8 @@ saved input = saved_of (lines input)
 
 -- Resuming reads records, answers them as line 0, and goes on, from line 1, with a script without first line.
 abbrev pub resumed_from : Option Passed → List ℕ
-resumed_from none = first_refused
-resumed_from (some r) = first_done ++ later_records 1 r.state r.rest
+resumed_from None = first_refused
+resumed_from (Some r) = first_done ++ later_records 1 r.state r.rest
 
 unfoldable pub resumed : List ℕ → List ℕ
 resumed input = resumed_from (passed_on (lines input))

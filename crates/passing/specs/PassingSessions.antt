@@ -1,7 +1,6 @@
 -- What saving and resuming do with a session (02, request 2): a session has used a script in chunks, and its state is written; or a session
 -- begins with the state of the records that an input begins with. Assumes nothing.
-use Rattle.std.specs.Prelude.{Bool, cond, List, [], ◌++◌, ◌≡◌, ℕ, min, ◌≤◌, drop, length}
-use Rattle.std.proofs.Math.Option.{Option, none, some}
+use Rattle.std.specs.Prelude.{Bool, cond, List, [], ◌++◌, ◌≡◌, ℕ, min, ◌≤◌, drop, length, None, Option, Some}
 use Rattle.listing.specs.Listing.{first_done, first_refused}
 use Rattle.records.specs.Reading.{Passed, passed_on}
 use Rattle.records.specs.RecordTexts.{longest_text, records_text}
@@ -23,8 +22,8 @@ saved_text stopped = first_refused
 -- A session that begins with records: it has used them, has answered them as line 0, and goes on from line 1 with their state. Where they
 -- are refused it has stopped.
 abbrev pub opened_by : List ℕ → Option Passed → Feeding
-opened_by input none = record { progress = stopped; used = length input; text = first_refused }
-opened_by input (some r) =
+opened_by input None = record { progress = stopped; used = length input; text = first_refused }
+opened_by input (Some r) =
     record { progress = later 1 r.state []; used = min (length (records_text r.state)) (length input); text = first_done }
 
 unfoldable pub opened : List ℕ → Feeding

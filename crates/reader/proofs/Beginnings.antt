@@ -1,4 +1,5 @@
 -- Laws of the bytes that a line must have before its number. Assumes nothing.
+use Rattle.std.specs.Prelude.{None, Option, Some}
 use mathlib.Core.Bool.{Bool, true, false, cond}
 use mathlib.Core.List.{List, [], ◌∷◌, ◌++◌, append_assoc, append-nil}
 use mathlib.Core.Path.{◌≡◌, refl, sym, ◌∙◌}
@@ -11,7 +12,6 @@ use lib.Seq.{drop-cons, drop-length, take_all}
 use borrow.Author.Tests.{eq-eqb, le-ltb, lt-ltb, ne_eqb}
 use Rattle.decimal.specs.Read.{read_decimal}
 use Rattle.decimal.specs.Write.{decimal, digits_before, digits_in}
-use Rattle.decimal.specs.declared.Number.TheVariants.{Malformed}
 use Rattle.records.specs.declared.place.Place.{Place}
 use Rattle.records.specs.declared.place.Place.TheVariants.{PartitionEnabled, Mbec, Config, Active, Shared, Register, Tpr, Pending, Enabled, Secure, Reason, From, Rax, Rcx, Word, Mask, Intercepts, Cr0Mask, Cr4Mask}
 use Rattle.records.specs.Reading.{number_after}
@@ -21,31 +21,29 @@ use Rattle.script.specs.LineForms.{tab}
 use Rattle.script.specs.ListingLine.{cell}
 use Rattle.reader.specs.PastBytes.{After, TwoDigits}
 use Rattle.reader.specs.Slots.{Room}
-use Rattle.reader.specs.declared.line.Past.{Past}
-use Rattle.reader.specs.declared.line.Past.TheVariants.{At, Nothing}
 
 -- One byte: the line ends before it, has it, or has another.
 module _ (line : List ℕ) (at byte : ℕ) where
-  pub byte-none : length line ≤ at → After line at (byte ∷ []) Nothing
+  pub byte-none : length line ≤ at → After line at (byte ∷ []) None
   unfolding number_after
   byte-none h more = rw (drop_of_length-le line h)
 
-  pub byte-here : at < length line → get_or line at 0 ≡ byte → After line at (byte ∷ []) (At (at + 1))
+  pub byte-here : at < length line → get_or line at 0 ≡ byte → After line at (byte ∷ []) (Some (at + 1))
   unfolding number_after
   byte-here h e = (λ more. rw (drop-cons line at 0 h, eq-eqb byte (get_or line at 0) (sym e), add-one at), omega arith)
 
-  pub byte-other : at < length line → (get_or line at 0 ≡ byte → ⊥) → After line at (byte ∷ []) Nothing
+  pub byte-other : at < length line → (get_or line at 0 ≡ byte → ⊥) → After line at (byte ∷ []) None
   unfolding number_after
   byte-other h e more = rw (drop-cons line at 0 h, ne_eqb byte (get_or line at 0) (λ k. e (sym k)))
 
 -- Some bytes and then others.
 module _ (line : List ℕ) (at : ℕ) (a b : List ℕ) where
-  pub none_first : After line at a Nothing → After line at (a ++ b) Nothing
+  pub none_first : After line at a None → After line at (a ++ b) None
   none_first h more = rw (append_assoc a b more) (h (b ++ more))
 
-  pub both : {mid : ℕ} (r : Past) → After line at a (At mid) → After line mid b r → After line at (a ++ b) r
-  both Nothing (h, w) k = λ more. rw (append_assoc a b more) (h (b ++ more) ∙ k more)
-  both (At end) (h, w) (k, u) = (λ more. rw (append_assoc a b more) (h (b ++ more) ∙ k more), u)
+  pub both : {mid : ℕ} (r : Option ℕ) → After line at a (Some mid) → After line mid b r → After line at (a ++ b) r
+  both None (h, w) k = λ more. rw (append_assoc a b more) (h (b ++ more) ∙ k more)
+  both (Some end) (h, w) (k, u) = (λ more. rw (append_assoc a b more) (h (b ++ more) ∙ k more), u)
 
 -- The digits of an index.
 one-digit : (n : ℕ) → n < 10 → decimal n ≡ (48 + n) ∷ []
@@ -75,7 +73,7 @@ module _ {line word : List ℕ} where
 
   module _ {i : ℕ} (w : Begun line word i) where
     opened : i < length word → (more : List ℕ)
-        → number_after (word ++ more) line ≡ cond (eqb (get_or word i 0) (get_or line i 0)) (number_after (drop (suc i) word ++ more) (drop (suc i) line)) Malformed
+        → number_after (word ++ more) line ≡ cond (eqb (get_or word i 0) (get_or line i 0)) (number_after (drop (suc i) word ++ more) (drop (suc i) line)) None
     unfolding number_after
     opened h more = w.same more ∙ rw (drop-cons word i 0 h, drop-cons line i 0 (omega (arith, w.within)))
 
@@ -85,10 +83,10 @@ module _ {line word : List ℕ} where
       same = λ more. opened h more ∙ rw (eq-eqb (get_or word i 0) (get_or line i 0) (sym e), add-one i);
     }
 
-    pub begun-other : i < length word → (get_or line i 0 ≡ get_or word i 0 → ⊥) → After line 0 word Nothing
+    pub begun-other : i < length word → (get_or line i 0 ≡ get_or word i 0 → ⊥) → After line 0 word None
     begun-other h e more = opened h more ∙ rw (ne_eqb (get_or word i 0) (get_or line i 0) (λ k. e (sym k)))
 
-    pub begun-end : length word ≤ i → After line 0 word (At (length word))
+    pub begun-end : length word ≤ i → After line 0 word (Some (length word))
     begun-end h = (here, omega (arith, w.within))
       where
         here : (more : List ℕ) → number_after (word ++ more) line ≡ number_after more (drop (length word) line)
@@ -96,17 +94,17 @@ module _ {line word : List ℕ} where
             let e : i ≡ length word = omega (arith, w.within) in
             let none : drop (length word) word ≡ [] = drop-length word in w.same more ∙ rw (e, none)
 
-too_short : (line word more : List ℕ) → length line < length word → number_after (word ++ more) line ≡ Malformed
+too_short : (line word more : List ℕ) → length line < length word → number_after (word ++ more) line ≡ None
 unfolding number_after
 too_short line [] more h = absurd (omega arith)
 too_short [] (a ∷ word) more h = refl
 too_short (b ∷ line) (a ∷ word) more h = go (eqb a b) (too_short line word more (omega arith))
   where
-    go : (t : Bool) → number_after (word ++ more) line ≡ Malformed → cond t (number_after (word ++ more) line) Malformed ≡ Malformed
+    go : (t : Bool) → number_after (word ++ more) line ≡ None → cond t (number_after (word ++ more) line) None ≡ None
     go true e = e
     go false e = refl
 
-pub begun-short : (line word : List ℕ) → length line < length word → After line 0 word Nothing
+pub begun-short : (line word : List ℕ) → length line < length word → After line 0 word None
 begun-short line word h more = too_short line word more h
 
 -- Indices one after the other.
@@ -118,24 +116,24 @@ two-digits-at (n ∷ numbers) (suc i) t h = two-digits-at numbers i t.1 (omega a
 module _ (line : List ℕ) (at : ℕ) (numbers : List ℕ) where
   -- The line has the first i of them, up to `end`.
   abbrev pub Behind : ℕ → ℕ → Type 0
-  Behind i end = (i ≤ length numbers) × After line at (closed (take i numbers)) (At end)
+  Behind i end = (i ≤ length numbers) × After line at (closed (take i numbers)) (Some end)
 
   pub behind-start : at ≤ length line → Behind 0 at
   unfolding closed
   behind-start h = (omega arith, (λ more. refl, h))
 
   module _ {i end : ℕ} (w : Behind i end) (h : i < length numbers) where
-    pub behind-next : {next : ℕ} → After line end (cell (get_or numbers i 0) tab) (At next) → Behind (i + 1) next
+    pub behind-next : {next : ℕ} → After line end (cell (get_or numbers i 0) tab) (Some next) → Behind (i + 1) next
     behind-next {next} k =
-        (omega arith, rw (closed-step numbers i h) at (both line at (closed (take i numbers)) (cell (get_or numbers i 0) tab) (At next) w.1 k))
+        (omega arith, rw (closed-step numbers i h) at (both line at (closed (take i numbers)) (cell (get_or numbers i 0) tab) (Some next) w.1 k))
 
-    pub behind-other : After line end (cell (get_or numbers i 0) tab) Nothing → After line at (closed numbers) Nothing
+    pub behind-other : After line end (cell (get_or numbers i 0) tab) None → After line at (closed numbers) None
     behind-other k =
         rw (closed_parts numbers (i + 1)) at
         (none_first line at (closed (take (i + 1) numbers)) (closed (drop (i + 1) numbers))
-        (rw (closed-step numbers i h) at (both line at (closed (take i numbers)) (cell (get_or numbers i 0) tab) Nothing w.1 k)))
+        (rw (closed-step numbers i h) at (both line at (closed (take i numbers)) (cell (get_or numbers i 0) tab) None w.1 k)))
 
-  pub behind-all : {i end : ℕ} → Behind i end → length numbers ≤ i → After line at (closed numbers) (At end)
+  pub behind-all : {i end : ℕ} → Behind i end → length numbers ≤ i → After line at (closed numbers) (Some end)
   behind-all {i} w h = rw (take_all i numbers h) at w.1
 
 -- The indices of a place that the arrays have room for.
@@ -162,9 +160,9 @@ room-digits (Cr0Mask v l) h = (omega arith, (omega arith, (omega arith, tt)))
 room-digits (Cr4Mask v l) h = (omega arith, (omega arith, (omega arith, tt)))
 
 -- The number behind the front of a record.
-pub no_front : (line : List ℕ) (p : Place) → After line 0 (front p) Nothing → number_after (front p) line ≡ Malformed
+pub no_front : (line : List ℕ) (p : Place) → After line 0 (front p) None → number_after (front p) line ≡ None
 no_front line p h = rw (append-nil (front p)) at (h [])
 
-pub behind-front : (line : List ℕ) (p : Place) (end : ℕ) → After line 0 (front p) (At end) → number_after (front p) line ≡ read_decimal (drop end line)
+pub behind-front : (line : List ℕ) (p : Place) (end : ℕ) → After line 0 (front p) (Some end) → number_after (front p) line ≡ read_decimal (drop end line)
 unfolding number_after
 behind-front line p end h = rw (append-nil (front p)) at (h.0 [])

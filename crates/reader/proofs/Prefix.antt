@@ -1,7 +1,7 @@
 -- The first 64 KB of an input say all that its records say. Assumes nothing.
+use Rattle.std.specs.Prelude.{Err, None, Ok, Option, Result, Some}
 use mathlib.Core.Bool.{Bool, true, false, cond}
 use mathlib.Core.List.{List, [], ◌∷◌, ◌++◌, append_assoc}
-use mathlib.Core.Option.{Option, none, some}
 use mathlib.Core.Path.{◌≡◌, refl, sym, ap, ◌∙◌}
 use Prim.Native.Nat.{ℕ, ◌≤◌}
 use native.Mathlib.Omega.{arith}
@@ -14,8 +14,6 @@ use Rattle.model.specs.State.{State}
 use Rattle.model.specs.WellFormed.{well_formed}
 use Rattle.script.specs.ListingLine.{line_feed}
 use Rattle.script.specs.Records.{last_line, lines, lines_in}
-use Rattle.script.specs.declared.Start.{Start}
-use Rattle.script.specs.declared.Start.TheVariants as start
 use Rattle.script.specs.Texts.{first_line_of}
 use Rattle.state.specs.Lent.{setup_of}
 use Rattle.records.specs.declared.place.Place.{Place}
@@ -29,6 +27,8 @@ use Rattle.records.proofs.RecordLines.{no-some, some_same}
 use Rattle.reader.specs.ReaderClaims.{ReadPrefix, ReadShort, UsedShort, goes_on}
 use Rattle.reader.specs.Received.{state_in}
 use Rattle.reader.proofs.Receiving.{lines-count}
+use Rattle.model.specs.declared.answer.Refusal.{Refusal}
+use Rattle.model.specs.declared.machine.FirstLine.{FirstLine}
 
 pub read_short : ReadShort
 read_short input r h = short-text r.state (only-records input r h).formed
@@ -74,8 +74,8 @@ begins bytes ls more e h =
 
 -- The lines behind the records may be any others.
 with_rest : List (List ℕ) → Option Taken → Option Taken
-with_rest rest none = none
-with_rest rest (some t) = some (record { values = t.values; rest = rest })
+with_rest rest None = None
+with_rest rest (Some t) = Some (record { values = t.values; rest = rest })
 
 taking-rest : (ps : List Place) (ls rest other : List (List ℕ)) → length ls ≡ length ps → taking ps (ls ++ other) ≡ with_rest other (taking ps (ls ++ rest))
 unfolding taking with_rest
@@ -85,45 +85,45 @@ taking-rest (p ∷ ps) [] rest other e = absurd (omega arith)
 taking-rest (p ∷ ps) (l ∷ ls) rest other e = rw (taking-rest ps ls rest other (omega arith)) (go (line_value p l) (taking ps (ls ++ rest)))
   where
     go : (x : Option ℕ) (t : Option Taken) → followed x (with_rest other t) ≡ with_rest other (followed x t)
-    go none t = refl
-    go (some x) none = refl
-    go (some x) (some t) = refl
+    go None t = refl
+    go (Some x) None = refl
+    go (Some x) (Some t) = refl
 
 module _ (ls rest other : List (List ℕ)) (r : Passed) (n : length ls ≡ length (places (setup_at r.state))) where
   formed-rest : (c : Setup) (t : Taken) (b : Bool) → well_formed (state_of_values c t.values) ≡ b
-      → cond b (some (record { state = state_of_values c t.values; rest = t.rest })) none ≡ some r → taking (places c) (ls ++ rest) ≡ some t
-      → from_taken c (taking (places c) (ls ++ other)) ≡ some (record { state = r.state; rest = other })
+      → cond b (Some (record { state = state_of_values c t.values; rest = t.rest })) None ≡ Some r → taking (places c) (ls ++ rest) ≡ Some t
+      → from_taken c (taking (places c) (ls ++ other)) ≡ Some (record { state = r.state; rest = other })
   unfolding state_of_values state_from with_rest
   formed-rest c t false w e k = no-some e
   formed-rest c t true w e k =
       let s : State = state_of_values c t.values in
       let same : s ≡ r.state = ap (λ (p : Passed). p.state) (some_same e) in
       let count : length ls ≡ length (places c) = n ∙ sym (ap (λ (s : State). length (places (setup_at s))) same) in
-      rw (taking-rest (places c) ls rest other count, k, w) (ap (λ (s : State). some (record { state = s; rest = other })) same)
+      rw (taking-rest (places c) ls rest other count, k, w) (ap (λ (s : State). Some (record { state = s; rest = other })) same)
 
-  taken-rest : (c : Setup) (t : Option Taken) → taking (places c) (ls ++ rest) ≡ t → from_taken c t ≡ some r
-      → from_taken c (taking (places c) (ls ++ other)) ≡ some (record { state = r.state; rest = other })
-  taken-rest c none k e = no-some e
-  taken-rest c (some t) k e = formed-rest c t (well_formed (state_of_values c t.values)) refl e k
+  taken-rest : (c : Setup) (t : Option Taken) → taking (places c) (ls ++ rest) ≡ t → from_taken c t ≡ Some r
+      → from_taken c (taking (places c) (ls ++ other)) ≡ Some (record { state = r.state; rest = other })
+  taken-rest c None k e = no-some e
+  taken-rest c (Some t) k e = formed-rest c t (well_formed (state_of_values c t.values)) refl e k
 
-  first_rest : (f : Start) → from_first f (ls ++ rest) ≡ some r → from_first f (ls ++ other) ≡ some (record { state = r.state; rest = other })
-  first_rest (start.Malformed x) e = no-some e
-  first_rest (start.First f) e = go (admissible f) refl e
+  first_rest : (f : Result FirstLine Refusal) → from_first f (ls ++ rest) ≡ Some r → from_first f (ls ++ other) ≡ Some (record { state = r.state; rest = other })
+  first_rest (Err x) e = no-some e
+  first_rest (Ok f) e = go (admissible f) refl e
     where
-      go : (b : Bool) → admissible f ≡ b → cond b (from_taken (setup_of f) (taking (places (setup_of f)) (ls ++ rest))) none ≡ some r
-          → cond b (from_taken (setup_of f) (taking (places (setup_of f)) (ls ++ other))) none ≡ some (record { state = r.state; rest = other })
+      go : (b : Bool) → admissible f ≡ b → cond b (from_taken (setup_of f) (taking (places (setup_of f)) (ls ++ rest))) None ≡ Some r
+          → cond b (from_taken (setup_of f) (taking (places (setup_of f)) (ls ++ other))) None ≡ Some (record { state = r.state; rest = other })
       go false a e = no-some e
       go true a e = taken-rest (setup_of f) (taking (places (setup_of f)) (ls ++ rest)) refl e
 
 -- Where records are accepted, the text of their state is, and any script may follow it.
-pub accepts : (input : List ℕ) (r : Passed) → passed_on (lines input) ≡ some r → (script : List ℕ)
-    → passed_on (lines (records_text r.state ++ script)) ≡ some (record { state = r.state; rest = lines script })
+pub accepts : (input : List ℕ) (r : Passed) → passed_on (lines input) ≡ Some r → (script : List ℕ)
+    → passed_on (lines (records_text r.state ++ script)) ≡ Some (record { state = r.state; rest = lines script })
 unfolding passed_on record_lines
 accepts input r h script =
     let s = r.state in
     let first = first_line_of (first_of (setup_at s)) in
     let others = lines_at (value_at s) (places (setup_at s)) in
-    let gave : passed_on (first ∷ others ++ r.rest) ≡ some r = sym (ap passed_on (only-records input r h).these) ∙ h in
+    let gave : passed_on (first ∷ others ++ r.rest) ≡ Some r = sym (ap passed_on (only-records input r h).these) ∙ h in
     ap passed_on (text-lines s script)
     ∙ first_rest others r.rest (lines script) r (lines-count (value_at s) (places (setup_at s))) (first_record first) gave
 
@@ -143,21 +143,21 @@ pub read-prefix : ReadPrefix
 unfolding records_text
 read-prefix input more big = go (passed_on (lines input)) refl
   where
-    short : (text : List ℕ) (r : Passed) → passed_on (lines text) ≡ some r → length (records_text r.state) ≤ length input
+    short : (text : List ℕ) (r : Passed) → passed_on (lines text) ≡ Some r → length (records_text r.state) ≤ length input
     short text r h = omega (arith, read_short text r h)
 
-    here : (text : List ℕ) (r : Passed) → length input ≤ length text → passed_on (lines text) ≡ some r → Begins text (records_text r.state)
+    here : (text : List ℕ) (r : Passed) → length input ≤ length text → passed_on (lines text) ≡ Some r → Begins text (records_text r.state)
     here text r l h = begins text (record_lines r.state) r.rest (only-records text r h).these (omega (arith, short text r h))
 
-    other : (o : Option Passed) → passed_on (lines input) ≡ none → passed_on (lines (input ++ more)) ≡ o → o ≡ none
-    other none e h = refl
-    other (some r) e h =
+    other : (o : Option Passed) → passed_on (lines input) ≡ None → passed_on (lines (input ++ more)) ≡ o → o ≡ None
+    other None e h = refl
+    other (Some r) e h =
         let b = begun-whole input more r.state (short (input ++ more) r h) (here (input ++ more) r (omega (arith, length-append input more)) h) in
         no-some (sym e ∙ ap (λ (l : List ℕ). passed_on (lines l)) b.same ∙ accepts (input ++ more) r h b.tail)
 
     go : (o : Option Passed) → passed_on (lines input) ≡ o → passed_on (lines (input ++ more)) ≡ goes_on input more o
-    go none e = other (passed_on (lines (input ++ more))) e refl
-    go (some r) e =
+    go None e = other (passed_on (lines (input ++ more))) e refl
+    go (Some r) e =
         let b = here input r (omega arith) e in
         let s = r.state in
         let rest : drop (length (records_text s)) input ≡ b.tail = ap (drop (length (records_text s))) b.same ∙ drop_at (records_text s) b.tail (length (records_text s)) refl in

@@ -1,7 +1,7 @@
 -- Laws of the whole: the first record, the state that must be well formed, and the bytes that the records take. Assumes nothing.
+use Rattle.std.specs.Prelude.{Err, None, Ok, Option, Result, Some}
 use mathlib.Core.Bool.{Bool, true, false, ◌&&◌}
 use mathlib.Core.List.{List, [], ◌∷◌}
-use mathlib.Core.Option.{Option, none, some}
 use mathlib.Core.Path.{◌≡◌, refl, sym, ap, ◌∙◌}
 use Prim.Native.Nat.{ℕ, suc, ◌+◌, ◌-◌, ◌≤◌, ◌<◌, min}
 use native.Mathlib.Omega.{arith}
@@ -18,8 +18,6 @@ use Rattle.model.specs.Masks.{valid_mask}
 use Rattle.model.specs.State.{State, in_range, top}
 use Rattle.model.proofs.Bools.{and_left, hold}
 use Rattle.script.specs.Records.{lines, lines_in}
-use Rattle.script.specs.declared.Start.{Start}
-use Rattle.script.specs.declared.Start.TheVariants as start
 use Rattle.state.specs.Lent.{machine_of, setup_of}
 use Rattle.records.specs.declared.place.Place.{Place}
 use Rattle.records.specs.Places.{places}
@@ -32,10 +30,10 @@ use Rattle.reader.specs.declared.Received.{Received}
 use Rattle.reader.proofs.Cut.{lines_next, passes-both, passes-one}
 
 -- Nothing was accepted.
-pub refused-passed : (r : Received) (input : List ℕ) {w : Option Passed} → r.accepted ≡ false → w ≡ none → passed_in r input ≡ w
+pub refused-passed : (r : Received) (input : List ℕ) {w : Option Passed} → r.accepted ≡ false → w ≡ None → passed_in r input ≡ w
 refused-passed r input h e = rw h (sym e)
 
-pub empty-none : (input : List ℕ) → length input ≡ 0 → passed_on (lines input) ≡ none
+pub empty-none : (input : List ℕ) → length input ≡ 0 → passed_on (lines input) ≡ None
 unfolding passed_on lines lines_in
 empty-none [] h = refl
 empty-none (byte ∷ input) h = absurd (omega arith)
@@ -45,20 +43,20 @@ module _ (input : List ℕ) (end : ℕ) (e : end ≡ line_end input 0) (h : 0 < 
   pub first_passes : Passes input 1 (min (end + 1) (length input))
   first_passes = let same : min (end + 1) (length input) - 0 ≡ min (end + 1) (length input) = omega arith in rw same at (passes-one input 0 end e h)
 
-  module _ (r : Start) (says : (rest : List (List ℕ)) → from_first r rest ≡ from_first (first_record (take end input)) rest) where
+  module _ (r : Result FirstLine Refusal) (says : (rest : List (List ℕ)) → from_first r rest ≡ from_first (first_record (take end input)) rest) where
     first-passed : passed_on (lines input) ≡ from_first r (lines (drop (min (end + 1) (length input)) input))
     unfolding passed_on
     first-passed =
         let same : end - 0 ≡ end = omega arith in
         ap passed_on (lines_next input 0 end e h) ∙ rw same (sym (says (lines (drop (min (end + 1) (length input)) input))))
 
-    pub first-malformed : (x : Refusal) → r ≡ start.Malformed x → passed_on (lines input) ≡ none
+    pub first-malformed : (x : Refusal) → r ≡ Err x → passed_on (lines input) ≡ None
     first-malformed x k = first-passed ∙ rw k
 
-    pub first-refused : (f : FirstLine) → r ≡ start.First f → admissible f ≡ false → passed_on (lines input) ≡ none
+    pub first-refused : (f : FirstLine) → r ≡ Ok f → admissible f ≡ false → passed_on (lines input) ≡ None
     first-refused f k a = first-passed ∙ rw (k, a)
 
-    pub first_taken : (f : FirstLine) → r ≡ start.First f → admissible f ≡ true → passed_on (lines input) ≡ wanted (setup_of f) input (min (end + 1) (length input))
+    pub first_taken : (f : FirstLine) → r ≡ Ok f → admissible f ≡ true → passed_on (lines input) ≡ wanted (setup_of f) input (min (end + 1) (length input))
     first_taken f k a = first-passed ∙ rw (k, a)
 
 pub few-of : (f : FirstLine) → admissible f ≡ true → Few (setup_of f)
@@ -87,7 +85,7 @@ used-is input r c next e one a (same, low, more) =
     let s = state_in r in
     let far : next + (r.used - next) ≡ r.used = omega arith in
     let all : Passes input (1 + length (places c)) r.used = rw far at (passes-both one more) in
-    let gave : passed_on (lines input) ≡ some (record { state = s; rest = lines (drop r.used input) }) = sym e ∙ rw a in
+    let gave : passed_on (lines input) ≡ Some (record { state = s; rest = lines (drop r.used input) }) = sym e ∙ rw a in
     let exact = only-records input (record { state = s; rest = lines (drop r.used input) }) gave in
     let count : length (record_lines s) ≡ 1 + length (places c) = records-count s ∙ ap (λ (c : Setup). 1 + length (places c)) same in
     let these : all.passed ≡ record_lines s =

@@ -1,7 +1,7 @@
 -- Laws of the first record: how many fields a line has, and what it says then. Assumes nothing.
+use Rattle.std.specs.Prelude.{Err, None, Ok}
 use mathlib.Core.Bool.{Bool, true, false, cond}
 use mathlib.Core.List.{List, [], ◌∷◌}
-use mathlib.Core.Option.{none}
 use mathlib.Core.Path.{◌≡◌, refl}
 use Prim.Native.Nat.{ℕ, suc, ◌+◌, ◌≤◌, ◌<◌}
 use native.Mathlib.Numerals.{add-one}
@@ -15,7 +15,6 @@ use Rattle.model.specs.declared.answer.Refusal.TheVariants.{LineTooLong, Unknown
 use Rattle.script.specs.Bytes.{bytes, same}
 use Rattle.script.specs.First.{line_first, vsm}
 use Rattle.script.specs.LineForms.{among, fields, in_form, in_front, said, said_in, tab}
-use Rattle.script.specs.declared.Start.TheVariants as start
 
 front_length : (byte : ℕ) (more : List (List ℕ)) → 1 ≤ length more → length (in_front byte more) ≡ length more
 front_length byte [] h = absurd (omega arith)
@@ -45,17 +44,17 @@ pub first-right : (line : List ℕ) → length (fields line) ≡ 7 → line_firs
 unfolding line_first first_record
 first-right line e = rw (eq-eqb (length (fields line)) 7 e)
 
-pub first-wrong : (line : List ℕ) → (length (fields line) ≡ 7 → ⊥) → (rest : List (List ℕ)) → from_first (first_record line) rest ≡ none
+pub first-wrong : (line : List ℕ) → (length (fields line) ≡ 7 → ⊥) → (rest : List (List ℕ)) → from_first (first_record line) rest ≡ None
 unfolding first_record said among
 first-wrong line e rest = long (ltb 256 (length line)) (fields line) e
   where
     word : (b : Bool) (more : List (List ℕ)) → (length more ≡ 6 → ⊥)
-        → from_first (cond b (in_form start.First start.Malformed vsm more) (start.Malformed UnknownWord)) rest ≡ none
+        → from_first (cond b (in_form Ok Err vsm more) (Err UnknownWord)) rest ≡ None
     word true more k = rw (ne_eqb (length more) 6 k)
     word false more k = refl
 
     long : (b : Bool) (all : List (List ℕ)) → (length all ≡ 7 → ⊥)
-        → from_first (cond b (start.Malformed LineTooLong) (said_in start.First start.Malformed (vsm ∷ []) all)) rest ≡ none
+        → from_first (cond b (Err LineTooLong) (said_in Ok Err (vsm ∷ []) all)) rest ≡ None
     long true all k = refl
     long false [] k = refl
     long false (first ∷ more) k = word (same first (bytes "vsm")) more (λ e. k (omega arith))

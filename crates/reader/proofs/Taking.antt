@@ -1,8 +1,8 @@
 -- What is kept while the records are read along the walk: the parts stand for the quantities so far, and what is left of the lines and
 -- of the places gives what the whole gives. Assumes nothing.
+use Rattle.std.specs.Prelude.{None, Option, Some}
 use mathlib.Core.Bool.{Bool, true, false, cond}
 use mathlib.Core.List.{List, [], ◌∷◌}
-use mathlib.Core.Option.{Option, none, some}
 use mathlib.Core.Path.{◌≡◌, refl, sym, ap, ◌∙◌, fun_ext}
 use Prim.Native.Nat.{ℕ, suc, ◌+◌, ◌-◌, ◌≤◌, ◌<◌, min}
 use native.Mathlib.Omega.{arith}
@@ -12,12 +12,8 @@ use lib.Seq.{drop-drop}
 use borrow.Author.Tests.{eqb-true, leb-true, ne_eqb}
 use Rattle.chunk.specs.Chunk.{line_end}
 use Rattle.chunk.proofs.ChunkLines.{end-within}
-use Rattle.decimal.specs.declared.Number.{Number}
-use Rattle.decimal.specs.declared.Number.TheVariants.{Malformed, Value}
 use Rattle.model.specs.declared.machine.Setup.{Setup}
 use Rattle.script.specs.Records.{lines, lines_in}
-use Rattle.records.specs.declared.place.Next.{Next}
-use Rattle.records.specs.declared.place.Next.TheVariants.{At, Done}
 use Rattle.records.specs.declared.place.Place.{Place}
 use Rattle.records.specs.Places.{end_rank, has, places, rank}
 use Rattle.records.specs.Reading.{Passed, Taken, among, followed, formed_only, from_taken, is_flag, line_value, number_after, only, state_of_values, taken, taking}
@@ -41,8 +37,8 @@ over (p ∷ ps) (x ∷ xs) g = over ps xs (updated p x g)
 
 -- What the rest of the lines gives, where some quantities are known.
 pub finished : Setup → (Place → ℕ) → List Place → Option Taken → Option Passed
-finished c g ps none = none
-finished c g ps (some t) = formed_only (state_from c (only c (over ps t.values g))) t.rest
+finished c g ps None = None
+finished c g ps (Some t) = formed_only (state_from c (only c (over ps t.values g))) t.rest
 
 only_same : (c : Setup) (f g : Place → ℕ) → ((p : Place) → has c p ≡ true → f p ≡ g p) → only c f ≡ only c g
 unfolding only
@@ -78,45 +74,45 @@ module _ (c : Setup) where
   finished-start few ls = go (taking (places c) ls)
     where
       go : (t : Option Taken) → finished c (λ q. 0) (places c) t ≡ from_taken c t
-      go none = refl
-      go (some t) =
+      go None = refl
+      go (Some t) =
           ap (λ (g : Place → ℕ). formed_only (state_from c g) t.rest)
           (only_same c (over (places c) t.values (λ q. 0)) (among (places c) t.values)
           (λ q h. over-among (places c) t.values (λ q. 0) q 0 (end_rank c) (places-run c few) refl))
 
-  finished-line : (g : Place → ℕ) (p : Place) (ps : List Place) (line : List ℕ) (ls : List (List ℕ)) (x : ℕ) → line_value p line ≡ some x
+  finished-line : (g : Place → ℕ) (p : Place) (ps : List Place) (line : List ℕ) (ls : List (List ℕ)) (x : ℕ) → line_value p line ≡ Some x
       → finished c g (p ∷ ps) (taking (p ∷ ps) (line ∷ ls)) ≡ finished c (updated p x g) ps (taking ps ls)
   unfolding finished taking over
   finished-line g p ps line ls x e = rw e (go (taking ps ls))
     where
-      go : (t : Option Taken) → finished c g (p ∷ ps) (followed (some x) t) ≡ finished c (updated p x g) ps t
-      go none = refl
-      go (some t) = refl
+      go : (t : Option Taken) → finished c g (p ∷ ps) (followed (Some x) t) ≡ finished c (updated p x g) ps t
+      go None = refl
+      go (Some t) = refl
 
-  finished-none : (g : Place → ℕ) (p : Place) (ps : List Place) (line : List ℕ) (ls : List (List ℕ)) → line_value p line ≡ none
-      → finished c g (p ∷ ps) (taking (p ∷ ps) (line ∷ ls)) ≡ none
+  finished-none : (g : Place → ℕ) (p : Place) (ps : List Place) (line : List ℕ) (ls : List (List ℕ)) → line_value p line ≡ None
+      → finished c g (p ∷ ps) (taking (p ∷ ps) (line ∷ ls)) ≡ None
   unfolding finished taking
   finished-none g p ps line ls e = rw e
 
 -- A quantity that is yes or no is 0 or 1.
-value-flag : (p : Place) (line : List ℕ) (x : ℕ) → line_value p line ≡ some x → is_flag p ≡ true → x ≤ 1
+value-flag : (p : Place) (line : List ℕ) (x : ℕ) → line_value p line ≡ Some x → is_flag p ≡ true → x ≤ 1
 unfolding line_value
 value-flag p line x h f = go (number_after (front p) line) (rw f at h)
   where
-    small : (y : ℕ) (b : Bool) → leb y 1 ≡ b → cond b (some y) none ≡ some x → x ≤ 1
+    small : (y : ℕ) (b : Bool) → leb y 1 ≡ b → cond b (Some y) None ≡ Some x → x ≤ 1
     small y true e k = let same : y ≡ x = cc in omega (arith, leb-true y 1 e)
     small y false e k = no-some k
 
-    go : (n : Number) → taken true n ≡ some x → x ≤ 1
-    go Malformed k = no-some k
-    go (Value y) k = small y (leb y 1) refl k
+    go : (n : Option ℕ) → taken true n ≡ Some x → x ≤ 1
+    go None k = no-some k
+    go (Some y) k = small y (leb y 1) refl k
 
-pub record Reads (c : Setup) (input : List ℕ) (from : ℕ) (m : Parts) (at : ℕ) (due : Next) : Type 0 where
+pub record Reads (c : Setup) (input : List ℕ) (from : ℕ) (m : Parts) (at : ℕ) (due : Option Place) : Type 0 where
   pub few : Small c
   pub quantities : Place → ℕ
   pub rest : List Place
   pub lo : ℕ
-  pub walk : Walk c due rest Done
+  pub walk : Walk c due rest None
   pub run : Run c lo rest (end_rank c)
   pub stands : Stands c m quantities
   pub whole : finished c quantities rest (taking rest (lines (drop at input))) ≡ wanted c input from
@@ -131,23 +127,23 @@ pub record Due (c : Setup) (input : List ℕ) (from : ℕ) (m : Parts) (at : ℕ
   pub room : Room p
   pub below : rank p < end_rank c
   pub rises : rank p < due_rank c (next_of c p)
-  pub missing : length input ≤ at → wanted c input from ≡ none
-  pub refused : (end : ℕ) → end ≡ line_end input at → at < length input → line_value p (take (end - at) (drop at input)) ≡ none → wanted c input from ≡ none
-  pub taken : (end x : ℕ) → end ≡ line_end input at → at < length input → line_value p (take (end - at) (drop at input)) ≡ some x
+  pub missing : length input ≤ at → wanted c input from ≡ None
+  pub refused : (end : ℕ) → end ≡ line_end input at → at < length input → line_value p (take (end - at) (drop at input)) ≡ None → wanted c input from ≡ None
+  pub taken : (end x : ℕ) → end ≡ line_end input at → at < length input → line_value p (take (end - at) (drop at input)) ≡ Some x
       → Reads c input from (stored p x m) (min (end + 1) (length input)) (next_of c p)
 
-pub reads_at : {c : Setup} {input : List ℕ} {from : ℕ} {m : Parts} {at : ℕ} {p : Place} → Reads c input from m at (At p) → Due c input from m at p
+pub reads_at : {c : Setup} {input : List ℕ} {from : ℕ} {m : Parts} {at : ℕ} {p : Place} → Reads c input from m at (Some p) → Due c input from m at p
 unfolding finished taking lines lines_in
 reads_at {c} {input} {from} {m} {at} {p} s = go s.rest s.walk s.run s.whole s.counts
   where
-    go : (rest : List Place) → Walk c (At p) rest Done → Run c s.lo rest (end_rank c)
+    go : (rest : List Place) → Walk c (Some p) rest None → Run c s.lo rest (end_rank c)
         → finished c s.quantities rest (taking rest (lines (drop at input))) ≡ wanted c input from
         → s.count + length rest ≡ length (places c) → Due c input from m at p
     go [] w r e n = not-ended w
     go (q ∷ ps) w r e n =
         let same : q ≡ p = (let k = w.0 in cc) in
         let run : Run c (suc (rank p)) ps (end_rank c) = rw same at r.2 in
-        let walk : Walk c (next_of c p) ps Done = rw same at w.1 in
+        let walk : Walk c (next_of c p) ps None = rw same at w.1 in
         let holds : has c p ≡ true = rw same at r.1 in
         let whole : finished c s.quantities (p ∷ ps) (taking (p ∷ ps) (lines (drop at input))) ≡ wanted c input from = rw same at e in
         record {
@@ -188,11 +184,11 @@ pub record Read (c : Setup) (input : List ℕ) (from : ℕ) (m : Parts) (at : �
   pub place : (from ≤ at) × (at ≤ length input)
   pub passes : Passes (drop from input) (length (places c)) (at - from)
 
-pub reads-done : {c : Setup} {input : List ℕ} {from : ℕ} {m : Parts} {at : ℕ} → Reads c input from m at Done → Read c input from m at
+pub reads-done : {c : Setup} {input : List ℕ} {from : ℕ} {m : Parts} {at : ℕ} → Reads c input from m at None → Read c input from m at
 unfolding finished taking over
 reads-done {c} {input} {from} {m} {at} s = go s.rest s.walk s.whole s.counts
   where
-    go : (rest : List Place) → Walk c Done rest Done → finished c s.quantities rest (taking rest (lines (drop at input))) ≡ wanted c input from
+    go : (rest : List Place) → Walk c None rest None → finished c s.quantities rest (taking rest (lines (drop at input))) ≡ wanted c input from
         → s.count + length rest ≡ length (places c) → Read c input from m at
     go (q ∷ ps) w e n = not-ended (sym w.0)
     go [] w e n = record {

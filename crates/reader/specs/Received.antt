@@ -1,6 +1,5 @@
 -- What reading gives (02, request 2): the machine in its parts and how many bytes its records take, or nothing. Assumes nothing.
-use Rattle.std.specs.Prelude.{Bool, true, cond, List, [], ◌∷◌, ◌++◌, ◌≡◌, ℕ, ◌-◌, ◌≤◌, min, ltb, drop, length, replicate, set, take}
-use Rattle.std.proofs.Math.Option.{Option, none, some}
+use Rattle.std.specs.Prelude.{Bool, true, cond, List, [], ◌∷◌, ◌++◌, ◌≡◌, ℕ, ◌-◌, ◌≤◌, min, ltb, drop, length, replicate, set, take, None, Option, Some}
 use Rattle.model.specs.declared.machine.Setup.{Setup}
 use Rattle.model.specs.State.{State, top}
 use Rattle.processor.specs.Record.{record_words}
@@ -12,8 +11,6 @@ use Rattle.records.specs.RecordTexts.{ended, records_text}
 use Rattle.records.specs.Values.{number}
 use Rattle.reader.specs.Slots.{Parts, parts_of}
 use Rattle.reader.specs.declared.Received.{Received}
-use Rattle.reader.specs.declared.line.Past.{Past}
-use Rattle.reader.specs.declared.line.Past.TheVariants.{At, Nothing}
 
 -- The state of some parts: as many words as there are pages.
 abbrev pub state_of : Setup → Parts → State
@@ -24,7 +21,7 @@ abbrev pub state_in : Received → State
 state_in r = state_of r.setup (parts_of r.levels r.masks (r.first ∷ r.second ∷ r.third ∷ r.fourth ∷ []) r.words)
 
 abbrev pub passed_in : Received → List ℕ → Option Passed
-passed_in r input = cond r.accepted (some (record { state = state_in r; rest = lines (drop r.used input) })) none
+passed_in r input = cond r.accepted (Some (record { state = state_in r; rest = lines (drop r.used input) })) None
 
 -- The bytes that the records take, with the line feed of the last if it has one.
 abbrev pub Used : Received → List ℕ → Type 0
@@ -58,9 +55,9 @@ pub record Passes (bytes : List ℕ) (count size : ℕ) : Type 0 where
 abbrev pub wanted : Setup → List ℕ → ℕ → Option Passed
 wanted setup input from = from_taken setup (taking (places setup) (lines (drop from input)))
 
-abbrev pub Taken : Setup → List ℕ → ℕ → Past → Parts → Type 0
-Taken setup input from Nothing m = wanted setup input from ≡ none
-Taken setup input from (At end) m =
+abbrev pub Taken : Setup → List ℕ → ℕ → Option ℕ → Parts → Type 0
+Taken setup input from None m = wanted setup input from ≡ None
+Taken setup input from (Some end) m =
     (wanted setup input from ≡ formed_only (state_of setup m) (lines (drop end input)))
     × (from ≤ end) × (end ≤ length input) × Passes (drop from input) (length (places setup)) (end - from)
 

@@ -1,6 +1,7 @@
 -- The answer of an event that is not done is that of the first condition of its rule that holds; only a line that reads or writes a register
 -- is told that it is watched; and a line has no reason exactly where it is done.
 -- Assumes nothing.
+use Rattle.std.specs.Prelude.{Err, None, Ok, Option, Some}
 use mathlib.Core.Bool.{Bool, true, false, cond, not, or-true, ◌||◌}
 use mathlib.Core.List.{List, [], ◌∷◌, ◌++◌}
 use mathlib.Core.Path.{◌≡◌, refl, ap, ◌∙◌}
@@ -26,12 +27,10 @@ use Rattle.model.specs.declared.event.Event.TheVariants.{Made, Int}
 use Rattle.model.specs.declared.quantity.Access.TheVariants as Access
 use Rattle.reason.specs.ReasonClaims.{FirstCondition, FirstHolding, NoneAtDone, OnlyRegisters, register_line}
 use Rattle.reason.specs.Reasons.{Reason, cause_of, denied_by, fields_of, is_denial, reason_for, reason_of}
-use Rattle.reason.specs.declared.Cause.{Cause}
-use Rattle.reason.specs.declared.Cause.TheVariants as cause
 use Rattle.reason.specs.declared.Reason.TheVariants as reason
 use Rattle.reason.proofs.NameLaws.{each-name}
-use Rattle.script.specs.declared.Parsed.TheVariants as parsed
 use Rattle.sheet.specs.Sheets.{Explanation, Allowed, Host, Levels, sheet_fields}
+use Rattle.explanation.specs.declared.Explanation.{Explanation}
 
 -- What is given of a list of conditions is the last resort, or the answer of the first that holds.
 first-of : (all : List (Answer × Bool)) (x : ℕ) → (number_of (first_of all (Done x)) ≡ 0 → ⊥) → FirstHolding all (first_of all (Done x))
@@ -74,17 +73,17 @@ nine-among s e h =
     ap nine f.split ∙ nine-holds f.before (step s e).answer f.after h
 
 -- The reason is that a register is watched: the answer is 9, and the line asks for no access.
-watched-nine : (c : Cause) (a : Answer) → reason_for c a ≡ reason.RegisterWatched → number_of a ≡ 9
+watched-nine : (c : Option Explanation) (a : Answer) → reason_for c a ≡ reason.RegisterWatched → number_of a ≡ 9
 watched-nine c (Done x) h = absurd (let z : ◌≡◌ {A = ℕ} 0 1 = cc in omega arith)
 watched-nine c (Refused r) h = absurd (go c (is_denial r) h)
   where
-    go : (c : Cause) (t : Bool) → cond t (denied_by c (reason.Named r)) (reason.Named r) ≡ reason.RegisterWatched → ⊥
-    go cause.Nothing true h = let z : ◌≡◌ {A = ℕ} 0 1 = cc in omega arith
-    go (cause.Access e) true h = let z : ◌≡◌ {A = ℕ} 0 1 = cc in omega arith
+    go : (c : Option Explanation) (t : Bool) → cond t (denied_by c (reason.Named r)) (reason.Named r) ≡ reason.RegisterWatched → ⊥
+    go None true h = let z : ◌≡◌ {A = ℕ} 0 1 = cc in omega arith
+    go (Some e) true h = let z : ◌≡◌ {A = ℕ} 0 1 = cc in omega arith
     go c false h = let z : ◌≡◌ {A = ℕ} 0 1 = cc in omega arith
 watched-nine c (Intercept l) h = refl
 
-no_access : {A : Type 0} (e : Explanation) (a : Answer) → reason_for (cause.Access e) a ≡ reason.RegisterWatched → A
+no_access : {A : Type 0} (e : Explanation) (a : Answer) → reason_for (Some e) a ≡ reason.RegisterWatched → A
 no_access e (Done x) h = absurd (let z : ◌≡◌ {A = ℕ} 0 1 = cc in omega arith)
 no_access e (Refused r) h = absurd (go (is_denial r) h)
   where
@@ -99,10 +98,10 @@ refused-nine r h = eqb-false (refusal_number r) 9 (not-true _ (each-name (λ x. 
 -- Event by event: only the conditions of an access and of rreg and wreg have an intercept.
 pub only-registers : OnlyRegisters
 unfolding rule rule_of
-only-registers s (parsed.Malformed r) h = absurd (refused-nine r (watched-nine (cause_of s (asked_by (parsed.Malformed r))) (Refused r) h))
-only-registers s (parsed.Event e) h = by-event e h (nine-among s e (watched-nine (cause_of s (asked_by (parsed.Event e))) (step s e).answer h))
+only-registers s (Err r) h = absurd (refused-nine r (watched-nine (cause_of s (asked_by (Err r))) (Refused r) h))
+only-registers s (Ok e) h = by-event e h (nine-among s e (watched-nine (cause_of s (asked_by (Ok e))) (step s e).answer h))
   where
-    by-event : (e : Event) → reason_of s (parsed.Event e) ≡ reason.RegisterWatched → nine (conditions s e) ≡ true → register_line (parsed.Event e) ≡ true
+    by-event : (e : Event) → reason_of s (Ok e) ≡ reason.RegisterWatched → nine (conditions s e) ≡ true → register_line (Ok e) ≡ true
     by-event (Made v mode (Enpart t mbec)) h n = n
     by-event (Made v mode (Envp w t ip sp cr)) h n = n
     by-event (Made v mode (Call len)) h n = n
@@ -135,12 +134,12 @@ some-fields Allowed h = no_name h
 some-fields Host h = no_name h
 some-fields (Levels by first second third) h = no_name h
 
-denied-fields : (c : Cause) (other : Reason) → (fields_of other ≡ [] → ⊥) → fields_of (denied_by c other) ≡ [] → ⊥
+denied-fields : (c : Option Explanation) (other : Reason) → (fields_of other ≡ [] → ⊥) → fields_of (denied_by c other) ≡ [] → ⊥
 unfolding fields_of
-denied-fields cause.Nothing other k h = k h
-denied-fields (cause.Access e) other k h = some-fields e h
+denied-fields None other k h = k h
+denied-fields (Some e) other k h = some-fields e h
 
-refused-fields : (c : Cause) (r : Refusal) (t : Bool) → fields_of (cond t (denied_by c (reason.Named r)) (reason.Named r)) ≡ [] → ⊥
+refused-fields : (c : Option Explanation) (r : Refusal) (t : Bool) → fields_of (cond t (denied_by c (reason.Named r)) (reason.Named r)) ≡ [] → ⊥
 unfolding fields_of
 refused-fields c r true h = denied-fields c (reason.Named r) no_name h
 refused-fields c r false h = no_name h
@@ -148,7 +147,7 @@ refused-fields c r false h = no_name h
 refused-number : (r : Refusal) → refusal_number r ≡ 0 → ⊥
 refused-number r h = let some : 1 ≤ refusal_number r = leb-true _ _ (each-name (λ x. leb 1 (refusal_number x)) refl r) in omega arith
 
-none-for : (c : Cause) (a : Answer) → (fields_of (reason_for c a) ≡ []) ↔ (number_of a ≡ 0)
+none-for : (c : Option Explanation) (a : Answer) → (fields_of (reason_for c a) ≡ []) ↔ (number_of a ≡ 0)
 unfolding fields_of
 none-for c (Done x) = (λ h. refl, λ h. refl)
 none-for c (Refused r) = (λ h. absurd (refused-fields c r (is_denial r) h), λ h. absurd (refused-number r h))

@@ -1,7 +1,7 @@
 -- The first four fields of the listing with reasons are the listing, byte for byte. Assumes nothing.
+use Rattle.std.specs.Prelude.{None, Option, Some}
 use mathlib.Core.Bool.{true}
 use mathlib.Core.List.{List, [], ◌∷◌, ◌++◌, append_assoc, append-nil, map}
-use mathlib.Core.Option.{Option, none, some}
 use mathlib.Core.Path.{◌≡◌, refl, sym, ap, ◌∙◌}
 use Prim.Native.Nat.{ℕ}
 use lib.ListN.{take}
@@ -92,16 +92,16 @@ later-four number s (line ∷ more) =
 
 -- All lines.
 from-no-feeds : (o : Option State) (why : Reason) (more : List (List ℕ)) → NoFeeds (reasoned_from o why more)
-from-no-feeds none why more = (no-feed 0 1 0 0 why, tt)
-from-no-feeds (some s) why more = (no-feed 0 0 0 0 reason.Nothing, later-no-feeds 1 s more)
+from-no-feeds None why more = (no-feed 0 1 0 0 why, tt)
+from-no-feeds (Some s) why more = (no-feed 0 0 0 0 reason.Nothing, later-no-feeds 1 s more)
 
 of-no-feeds : (ls : List (List ℕ)) → NoFeeds (reasoned_of ls)
 of-no-feeds [] = (no-feed 0 1 0 0 reason.EmptyInput, tt)
 of-no-feeds (line ∷ more) = from-no-feeds (state_by (line_first line)) (first_reason (line_first line)) more
 
 from-four : (o : Option State) (why : Reason) (more : List (List ℕ)) → ended (map first_four (reasoned_from o why more)) ≡ listing_from o more
-from-four none why more = four-last 0 1 0 0 why
-from-four (some s) why more =
+from-four None why more = four-last 0 1 0 0 why
+from-four (Some s) why more =
     four-then 0 0 0 0 reason.Nothing (map first_four (later_reasoned 1 s more)) ∙ ap (λ (l : List ℕ). first_done ++ l) (later-four 1 s more)
 
 of_four : (ls : List (List ℕ)) → ended (map first_four (reasoned_of ls)) ≡ listing_of ls

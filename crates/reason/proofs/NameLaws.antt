@@ -1,7 +1,7 @@
 -- A name says its refusal, so no two refusals share one; and what one test says of all names holds of each. Assumes nothing.
+use Rattle.std.specs.Prelude.{Some}
 use mathlib.Core.Bool.{Bool, true, false, cond}
 use mathlib.Core.List.{List, [], ◌∷◌}
-use mathlib.Core.Option.{some}
 use mathlib.Core.Path.{◌≡◌, refl, sym, ap, ◌∙◌}
 use Prim.Native.Nat.{ℕ}
 use native.Mathlib.Omega.{arith}
@@ -65,20 +65,20 @@ name-says refusal.InterruptFlagClear = refl
 
 pub one_name : OneName
 one_name a b e =
-    let both : some a ≡ some b = sym (name-says a) ∙ ap (named_among refusals) e ∙ name-says b in
+    let both : Some a ≡ Some b = sym (name-says a) ∙ ap (named_among refusals) e ∙ name-says b in
     cc
 
 -- What a test says of every refusal of a list holds of each that a name says.
 found-passes : (test : Refusal → Bool) (among : List Refusal) (name : List ℕ) (r : Refusal) → every test among ≡ true
-    → named_among among name ≡ some r → test r ≡ true
+    → named_among among name ≡ Some r → test r ≡ true
 unfolding named_among
 found-passes test [] name r h e = absurd (let z : ◌≡◌ {A = ℕ} 0 1 = cc in omega arith)
 found-passes test (first ∷ more) name r h e =
     let (here, later) = and_parts (test first) (every test more) h in
     go (same name (reason_name first)) e here (found-passes test more name r later)
   where
-    go : (t : Bool) → cond t (some first) (named_among more name) ≡ some r → test first ≡ true
-        → (named_among more name ≡ some r → test r ≡ true) → test r ≡ true
+    go : (t : Bool) → cond t (Some first) (named_among more name) ≡ Some r → test first ≡ true
+        → (named_among more name ≡ Some r → test r ≡ true) → test r ≡ true
     go true k here later = let e : first ≡ r = cc in rw (← e) here
     go false k here later = later k
 

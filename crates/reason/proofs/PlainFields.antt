@@ -1,4 +1,5 @@
 -- No field of a reason has a tab or a line feed, and a line has room. Assumes nothing.
+use Rattle.std.specs.Prelude.{None, Some, Option}
 use mathlib.Core.Bool.{Bool, true, false, ◌&&◌}
 use mathlib.Core.List.{List, [], ◌∷◌, ◌++◌, append_assoc, append-nil}
 use mathlib.Core.Path.{◌≡◌, refl, sym, ap, ◌∙◌}
@@ -10,7 +11,6 @@ use lib.ListN.{length, length-append}
 use Rattle.decimal.proofs.DigitReading.{and_parts}
 use Rattle.decimal.proofs.Digits.{text-digits, text-length}
 use Rattle.decimal.specs.Write.{decimal}
-use Rattle.explanation.specs.declared.Receiver.TheVariants as receiver
 use Rattle.reason.specs.ReasonClaims.{ShortReasoned}
 use Rattle.reason.specs.ReasonNames.{Refusal, reason_name}
 use Rattle.reason.specs.Reasons.{Reason, fields_of, reason_end, reasoned_line, reasoned_text}
@@ -25,7 +25,8 @@ use Rattle.script.specs.LineForms.{tab}
 use Rattle.script.specs.ListingLine.{line_feed}
 use Rattle.script.specs.Texts.{parted, together}
 use Rattle.sheet.proofs.SheetLengths.{line-length}
-use Rattle.sheet.specs.Sheets.{Denial, Absent, By, Explanation, Allowed, Host, Levels, Receiver, group, kind_field, receiver_field, sheet_fields, sheet_line, sheet_text}
+use Rattle.sheet.specs.Sheets.{Denial, Absent, By, Explanation, Allowed, Host, Levels, group, kind_field, receiver_field, sheet_fields, sheet_line, sheet_text}
+use Rattle.model.specs.declared.quantity.Level.{Level}
 
 -- No tab and no line feed.
 abbrev pub plain : List ℕ → Bool
@@ -40,10 +41,10 @@ plain-both [] right h k = k
 plain-both (x ∷ left) right h k = let (here, more) = and_parts (plain x) (every plain left) h in rw here (plain-both left right more k)
 
 -- The fields of a sheet.
-plain-receiver : (by : Receiver) → plain (receiver_field by) ≡ true
+plain-receiver : (by : Option Level) → plain (receiver_field by) ≡ true
 unfolding receiver_field
-plain-receiver receiver.Nobody = refl
-plain-receiver (receiver.By level) = plain-number level.0
+plain-receiver None = refl
+plain-receiver (Some level) = plain-number level.0
 
 plain-group : (level : ℕ) (d : Denial) → every plain (group level d) ≡ true
 unfolding group kind_field

@@ -1,6 +1,5 @@
 -- What is proved of the reasons, for every state, line and script. Assumes nothing.
-use Rattle.std.specs.Prelude.{Bool, true, false, List, [], ◌∷◌, ◌++◌, ◌↔◌, ◌≡◌, ℕ, ◌≤◌, length}
-use Rattle.std.proofs.Math.Option.{some}
+use Rattle.std.specs.Prelude.{Bool, true, false, List, [], ◌∷◌, ◌++◌, ◌↔◌, ◌≡◌, ℕ, ◌≤◌, length, Err, Ok, Result, Some}
 use Rattle.listing.specs.Listing.{Answered, answered, listing, record_of}
 use Rattle.model.specs.Answers.{number_of}
 use Rattle.model.specs.Claims.{conditions}
@@ -17,12 +16,10 @@ use Rattle.reason.specs.ReasonedListing.{cut_to_four, reasoned}
 use Rattle.reason.specs.Reasons.{Reason, line_with, longest_reasoned, reason_fields, reason_of, reasoned_text}
 use Rattle.reason.specs.declared.Reason.TheVariants as reason
 use Rattle.records.specs.RecordTexts.{ended}
-use Rattle.script.specs.declared.Parsed.{Parsed}
-use Rattle.script.specs.declared.Parsed.TheVariants as parsed
 
 -- A name says its refusal, and so no two refusals share one.
 abbrev pub NameSays : Type 0
-NameSays = (r : Refusal) → named_among refusals (reason_name r) ≡ some r
+NameSays = (r : Refusal) → named_among refusals (reason_name r) ≡ Some r
 
 abbrev pub OneName : Type 0
 OneName = (a b : Refusal) → reason_name a ≡ reason_name b → a ≡ b
@@ -66,18 +63,18 @@ of_register Caps = false
 of_register (Cri word) = false
 of_register (Crm n mask) = false
 
-abbrev pub register_line : Parsed → Bool
-register_line (parsed.Malformed r) = false
-register_line (parsed.Event (Made v mode a)) = of_register a
-register_line (parsed.Event (Int w g n)) = false
+abbrev pub register_line : Result Event Refusal → Bool
+register_line (Err r) = false
+register_line (Ok (Made v mode a)) = of_register a
+register_line (Ok (Int w g n)) = false
 
 -- Only such a line is told that the register is watched (02, request 6).
 abbrev pub OnlyRegisters : Type 0
-OnlyRegisters = (s : State) (said : Parsed) → reason_of s said ≡ reason.RegisterWatched → register_line said ≡ true
+OnlyRegisters = (s : State) (said : Result Event Refusal) → reason_of s said ≡ reason.RegisterWatched → register_line said ≡ true
 
 -- A line has no reason exactly at 0.
 abbrev pub NoneAtDone : Type 0
-NoneAtDone = (s : State) (said : Parsed) → (reason_fields s said ≡ []) ↔ (number_of (answered s said).answer ≡ 0)
+NoneAtDone = (s : State) (said : Result Event Refusal) → (reason_fields s said ≡ []) ↔ (number_of (answered s said).answer ≡ 0)
 
 -- Without a reason the line is the listing's.
 abbrev pub BareLine : Type 0

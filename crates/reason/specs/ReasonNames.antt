@@ -1,7 +1,6 @@
 -- The name of each refusal: the condition that it stands for (01, "Answer numbers"; model/src/answer.rt says each in words). No two share
 -- a name, and a name has no tab and no line feed. Assumes nothing.
-use Rattle.std.specs.Prelude.{cond, List, [], ◌∷◌, ℕ}
-use Rattle.std.proofs.Math.Option.{Option, none, some}
+use Rattle.std.specs.Prelude.{cond, List, [], ◌∷◌, ℕ, None, Option, Some}
 pub use Rattle.model.specs.declared.answer.Refusal.{Refusal}
 use Rattle.model.specs.declared.answer.Refusal.TheVariants as refusal
 use Rattle.script.specs.Bytes.{bytes, same}
@@ -83,5 +82,5 @@ refusals =
 
 -- The refusal that a name says, of some: the first that has it.
 unfoldable pub named_among : List Refusal → List ℕ → Option Refusal
-named_among [] name = none
-named_among (r ∷ more) name = cond (same name (reason_name r)) (some r) (named_among more name)
+named_among [] name = None
+named_among (r ∷ more) name = cond (same name (reason_name r)) (Some r) (named_among more name)

@@ -1,6 +1,6 @@
 -- Why a line got its answer. Demand 1 of 01: each refusal stands for a stated condition, and its name is the reason. For a denied access
 -- the reason is the line of 02, request 3. The state is the one before the line. Assumes nothing.
-use Rattle.std.specs.Prelude.{Bool, cond, ◌||◌, List, [], ◌∷◌, ◌++◌, ℕ, eqb}
+use Rattle.std.specs.Prelude.{Bool, cond, ◌||◌, List, [], ◌∷◌, ◌++◌, ℕ, eqb, None, Option, Result, Some}
 use Rattle.asked.specs.AskedAccess.{asked_by}
 use Rattle.asked.specs.declared.Asked.{Asked}
 use Rattle.asked.specs.declared.Asked.TheVariants as asked
@@ -14,26 +14,25 @@ use Rattle.model.specs.declared.answer.Answer.{Answer}
 use Rattle.model.specs.declared.answer.Answer.TheVariants.{Done, Refused, Intercept}
 use Rattle.model.specs.declared.answer.Refusal.{Refusal}
 use Rattle.reason.specs.ReasonNames.{reason_name}
-use Rattle.reason.specs.declared.Cause.{Cause}
-use Rattle.reason.specs.declared.Cause.TheVariants as cause
 pub use Rattle.reason.specs.declared.Reason.{Reason}
 use Rattle.reason.specs.declared.Reason.TheVariants as reason
 use Rattle.records.specs.RecordTexts.{ended}
 use Rattle.script.specs.Bytes.{bytes}
 use Rattle.script.specs.ListingLine.{line_feed}
 use Rattle.script.specs.Texts.{parted, together}
-use Rattle.script.specs.declared.Parsed.{Parsed}
 use Rattle.sheet.specs.Sheets.{sheet_fields}
+use Rattle.explanation.specs.declared.Explanation.{Explanation}
+use Rattle.model.specs.declared.event.Event.{Event}
 
 -- Why the access that a line asks for is allowed or denied in a state, if it asks for one.
-abbrev pub cause_of : State → Asked → Cause
-cause_of s asked.Nothing = cause.Nothing
-cause_of s (asked.Access v mode p access) = cause.Access (explanation_of s v.0 (mode_of mode) p.0 access)
+abbrev pub cause_of : State → Asked → Option Explanation
+cause_of s asked.Nothing = None
+cause_of s (asked.Access v mode p access) = Some (explanation_of s v.0 (mode_of mode) p.0 access)
 
 -- A denied access has its explanation as the reason, any other event the reason that is given.
-abbrev pub denied_by : Cause → Reason → Reason
-denied_by cause.Nothing other = other
-denied_by (cause.Access e) other = reason.Denied e
+abbrev pub denied_by : Option Explanation → Reason → Reason
+denied_by None other = other
+denied_by (Some e) other = reason.Denied e
 
 -- The refusals of a denied access: 10, no denying level is enabled on the processor, and 11, the host denies.
 abbrev pub is_denial : Refusal → Bool
@@ -41,12 +40,12 @@ is_denial r = eqb (refusal_number r) 10 || eqb (refusal_number r) 11
 
 -- None at 0; at 9, 10 and 11 of an access why it is denied; at 9 of another event that the register is watched (02, request 6), by the level
 -- that the listing has as its value; else the condition that gave the answer.
-abbrev pub reason_for : Cause → Answer → Reason
+abbrev pub reason_for : Option Explanation → Answer → Reason
 reason_for c (Done x) = reason.Nothing
 reason_for c (Refused r) = cond (is_denial r) (denied_by c (reason.Named r)) (reason.Named r)
 reason_for c (Intercept l) = denied_by c reason.RegisterWatched
 
-abbrev pub reason_of : State → Parsed → Reason
+abbrev pub reason_of : State → Result Event Refusal → Reason
 reason_of s said = reason_for (cause_of s (asked_by said)) (answered s said).answer
 
 -- The fields of a reason: a name, or the fields of the sheet.
@@ -58,7 +57,7 @@ fields_of reason.RegisterWatched = bytes "register-watched" ∷ []
 fields_of reason.OutOfRange = bytes "first-line-out-of-range" ∷ []
 fields_of reason.EmptyInput = bytes "empty-input" ∷ []
 
-abbrev pub reason_fields : State → Parsed → List (List ℕ)
+abbrev pub reason_fields : State → Result Event Refusal → List (List ℕ)
 reason_fields s said = fields_of (reason_of s said)
 
 -- Each after a tab, and then the line feed. They take at most so many bytes: a tab and the longest sheet.
@@ -85,5 +84,5 @@ abbrev pub line_with : ℕ → Answered → Reason → List ℕ
 line_with number a reason = reasoned_line number (number_of a.answer) (value_of a.answer) a.level reason
 
 -- The line of what a later line says.
-abbrev pub reasoned_record : ℕ → State → Parsed → List ℕ
+abbrev pub reasoned_record : ℕ → State → Result Event Refusal → List ℕ
 reasoned_record number s said = line_with number (answered s said) (reason_of s said)

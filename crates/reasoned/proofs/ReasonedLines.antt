@@ -1,7 +1,7 @@
 -- Laws of lines that end with their reasons: only what is kept of a line counts, and one line of a chunk is taken at once. Assumes nothing.
+use Rattle.std.specs.Prelude.{Err, None, Ok, Option, Result, Some}
 use Rattle.std.proofs.Common.{◌≡◌, ℕ, ◌+◌, ◌<◌, ◌≤◌, Bool, true, false, cond, eqb, List, [], ◌∷◌, ◌++◌, length, take, drop, sym, refl, ap, ◌∙◌, append-nil, arith, length-take-le, take_all}
 use mathlib.Core.Bool.{false≢true}
-use mathlib.Core.Option.{Option, none, some}
 use native.Mathlib.Nat.{sub-zero}
 use lib.Seq.{take-append-add}
 use Rattle.chunk.proofs.ChunkLines.{end-within, joined, lines_from, lines-joined, lines-last, with_line}
@@ -26,24 +26,22 @@ use Rattle.script.specs.First.{first_form, line_first}
 use Rattle.script.specs.LineForms.{fields}
 use Rattle.script.specs.ListingLine.{line_feed}
 use Rattle.script.specs.Records.{Lines, lines_in}
-use Rattle.script.specs.declared.Parsed.{Parsed}
-use Rattle.script.specs.declared.Parsed.TheVariants as parsed
-use Rattle.script.specs.declared.Start.{Start}
-use Rattle.script.specs.declared.Start.TheVariants as start
 use Rattle.session.proofs.Ending.{said-kept}
 use Rattle.session.proofs.WholeListing.{Plain, kept-twice, line-ended, lines-plain}
 use Rattle.session.specs.Session.{Bounds, Progress, begun, consumed, consumed_lines, ended, extended, first, is_stopped, kept, last_ended, later, progress_in, stopped}
 use Rattle.session.specs.declared.Phase.{Phase}
 use Rattle.session.specs.declared.Phase.TheVariants as phase
 use Rattle.reasoned.specs.ReasonedSession.{first_text, last_told, line_text, line_used, told, told_lines}
+use Rattle.model.specs.declared.event.Event.{Event}
+use Rattle.model.specs.declared.machine.FirstLine.{FirstLine}
 
 -- Only what is kept of a line counts.
 pub text-kept : (p : Progress) → line_text (kept p) ≡ line_text p
 unfolding line_text line_event line_first
 text-kept (first line) =
-    ap (λ (x : Start). first_text (state_by x) (first_reason x)) (said-kept start.First start.Malformed (λ l. first_form (eqb (length (fields l)) 7) ∷ []) line)
+    ap (λ (x : Result FirstLine Refusal). first_text (state_by x) (first_reason x)) (said-kept Ok Err (λ l. first_form (eqb (length (fields l)) 7) ∷ []) line)
 text-kept (later number s line) =
-    ap (λ (x : Parsed). with_feeds (reasoned_record number s x ∷ [])) (said-kept parsed.Event parsed.Malformed (λ l. events) line)
+    ap (λ (x : Result Event Refusal). with_feeds (reasoned_record number s x ∷ [])) (said-kept Ok Err (λ l. events) line)
 text-kept stopped = refl
 
 pub text-twice : (p : Progress) (line more : List ℕ) → line_text (extended (kept (extended p line)) more) ≡ line_text (extended p (line ++ more))
@@ -56,15 +54,15 @@ unfolding ended
 nothing-held (first line) = go (state_by (line_first line))
   where
     go : (o : Option State) → kept (extended (begun o).progress []) ≡ (begun o).progress
-    go none = refl
-    go (some s) = refl
+    go None = refl
+    go (Some s) = refl
 nothing-held (later number s line) = refl
 nothing-held stopped = refl
 
 -- A text of a line has room.
 first_short : (o : Option State) (why : Reason) → length (first_text o why) ≤ 255
-first_short none why = short-reasoned 0 1 0 0 why
-first_short (some s) why = short-reasoned 0 0 0 0 _
+first_short None why = short-reasoned 0 1 0 0 why
+first_short (Some s) why = short-reasoned 0 0 0 0 _
 
 pub text-short : (p : Progress) → length (line_text p) ≤ 255
 unfolding line_text
@@ -130,16 +128,16 @@ unfolding ended line_text
 first-refused line h = go (state_by (line_first line)) h
   where
     go : (o : Option State) → is_stopped (begun o).progress ≡ true → first_text o (first_reason (line_first line)) ≡ reasoned_text 0 1 0 0 (first_reason (line_first line))
-    go none k = refl
-    go (some s) k = absurd (false≢true k)
+    go None k = refl
+    go (Some s) k = absurd (false≢true k)
 
 pub first_done : (line : List ℕ) → is_stopped (ended (first line)).progress ≡ false → line_text (first line) ≡ reasoned_text 0 0 0 0 reason.Nothing
 unfolding ended line_text
 first_done line h = go (state_by (line_first line)) h
   where
     go : (o : Option State) → is_stopped (begun o).progress ≡ false → first_text o (first_reason (line_first line)) ≡ reasoned_text 0 0 0 0 reason.Nothing
-    go none k = absurd (false≢true (sym k))
-    go (some s) k = refl
+    go None k = absurd (false≢true (sym k))
+    go (Some s) k = refl
 
 -- A later line: the session after it, and its text. A malformed line shows its refusal.
 pub later-progress : (number : ℕ) (s next : State) (line : List ℕ) → next ≡ (answered s (line_event line)).next
@@ -147,13 +145,13 @@ pub later-progress : (number : ℕ) (s next : State) (line : List ℕ) → next 
 unfolding ended
 later-progress number s next line e = rw e
 
-pub later-text : (number : ℕ) (s : State) (line : List ℕ) (said : Parsed) (shown : Shown) (why : Reason) → said ≡ line_event line
+pub later-text : (number : ℕ) (s : State) (line : List ℕ) (said : Result Event Refusal) (shown : Shown) (why : Reason) → said ≡ line_event line
     → shown ≡ shown_by (answered s said) → why ≡ reason_for (cause_of s (asked_by said)) (answered s said).answer
     → reasoned_text number shown.answer shown.value shown.level.0 why ≡ line_text (later number s line)
 unfolding line_text
 later-text number s line said shown why e h k = rw (h, k, e)
 
-pub shown-malformed : (s : State) (r : Refusal) → shown_of (Refused r) (level 0) ≡ shown_by (answered s (parsed.Malformed r))
+pub shown-malformed : (s : State) (r : Refusal) → shown_of (Refused r) (level 0) ≡ shown_by (answered s (Err r))
 shown-malformed s r = go (eqb (refusal_number r) 1)
   where
     go : (t : Bool) → ◌≡◌ {A = Shown} (record { answer = refusal_number r; value = 0; level = cond t (level 0) (level 0) }) (record { answer = refusal_number r; value = 0; level = level 0 })

@@ -1,6 +1,6 @@
 -- However a script is cut into chunks, what is written of them is its listing with reasons. Assumes nothing.
+use Rattle.std.specs.Prelude.{None, Option, Some}
 use Rattle.std.proofs.Common.{◌≡◌, ℕ, List, [], ◌∷◌, ◌++◌, sym, refl, ap, ◌∙◌, append_assoc, append-nil}
-use mathlib.Core.Option.{Option, none, some}
 use Rattle.chunk.proofs.ChunkLines.{joined as lines_joined, lines-joined}
 use Rattle.listing.specs.Listing.{answered, number_after, state_by}
 use Rattle.model.specs.State.{State}
@@ -84,18 +84,18 @@ first-whole [] [] = refl
 first-whole [] (byte ∷ rest) = last_of (first []) (byte ∷ rest) ∙ go (state_by (line_first (byte ∷ rest)))
   where
     go : (o : Option State) → first_text o (first_reason (line_first (byte ∷ rest))) ≡ with_feeds (reasoned_from o (first_reason (line_first (byte ∷ rest))) [])
-    go none = refl
-    go (some s) = unfold with_feeds in (unfold later_reasoned in refl)
+    go None = refl
+    go (Some s) = unfold with_feeds in (unfold later_reasoned in refl)
 first-whole (line ∷ ls) rest = go (state_by (line_first line))
   where
     go : (o : Option State)
         → (first_text o (first_reason (line_first line)) ++ told_lines (begun o).progress ls) ++ last_told (consumed_lines (begun o).progress ls rest).progress
         ≡ with_feeds (reasoned_from o (first_reason (line_first line)) (ls ++ last_line rest))
-    go none =
+    go None =
         append_assoc (with_feeds (reasoned_refused (first_reason (line_first line)) ∷ [])) (told_lines stopped ls) _
         ∙ ap (λ (l : List ℕ). with_feeds (reasoned_refused (first_reason (line_first line)) ∷ []) ++ l) (stopped-whole ls rest)
         ∙ append-nil (with_feeds (reasoned_refused (first_reason (line_first line)) ∷ []))
-    go (some s) =
+    go (Some s) =
         append_assoc (with_feeds (reasoned_done ∷ [])) (told_lines (later 1 s []) ls) _
         ∙ ap (λ (l : List ℕ). with_feeds (reasoned_done ∷ []) ++ l) (later-whole ls rest 1 s)
         ∙ (unfold with_feeds in (append_assoc reasoned_done (line_feed ∷ []) _))

@@ -1,19 +1,20 @@
 -- What the parts of the code give: a line that was answered with its reason, and a line that has ended. Assumes nothing.
-use Rattle.std.specs.Prelude.{◌≡◌, ℕ, ◌≤◌, List, length}
+use Rattle.std.specs.Prelude.{◌≡◌, ℕ, ◌≤◌, List, length, Option, Result}
 use Rattle.std.proofs.lemmas.List.Edits.{sets}
 use Rattle.listing.specs.Answer.{shown_by}
 use Rattle.listing.specs.Listing.{answered}
 use Rattle.model.specs.State.{State}
 use Rattle.reason.specs.Reasons.{reason_for}
-use Rattle.reason.specs.declared.Cause.{Cause}
-use Rattle.script.specs.declared.Parsed.{Parsed}
 use Rattle.session.specs.Session.{Progress, ended, progress_of}
 use Rattle.session.specs.declared.Written.{Written}
 use Rattle.reasoned.specs.ReasonedSession.{line_text}
 use Rattle.reasoned.specs.declared.line_reason.Told.{Told}
+use Rattle.explanation.specs.declared.Explanation.{Explanation}
+use Rattle.model.specs.declared.answer.Refusal.{Refusal}
+use Rattle.model.specs.declared.event.Event.{Event}
 
 -- A line was answered: the next state, what is shown, and the reason, where the cause of an access was asked before.
-pub record ToldBy (cause : Cause) (said : Parsed) (r : Told) (before after : State) : Type 0 where
+pub record ToldBy (cause : Option Explanation) (said : Result Event Refusal) (r : Told) (before after : State) : Type 0 where
   pub next : after ≡ (answered before said).next
   pub shown : r.shown ≡ shown_by (answered before said)
   pub why : r.why ≡ reason_for cause (answered before said).answer

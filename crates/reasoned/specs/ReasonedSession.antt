@@ -1,7 +1,6 @@
 -- What a session writes of a chunk with the reasons, and at the script's end. How far the session comes is what `consumed` of crate
 -- `session` says: only the text of each line is another. Assumes nothing.
-use Rattle.std.specs.Prelude.{ℕ, ◌+◌, min, List, [], ◌∷◌, ◌++◌, length}
-use Rattle.std.proofs.Math.Option.{Option, none, some}
+use Rattle.std.specs.Prelude.{ℕ, ◌+◌, min, List, [], ◌∷◌, ◌++◌, length, None, Option, Some}
 use Rattle.chunk.specs.Chunk.{line_end}
 use Rattle.listing.specs.Listing.{state_by}
 use Rattle.model.specs.State.{State}
@@ -17,8 +16,8 @@ use Rattle.session.specs.Session.{Progress, ended, extended, first, later, stopp
 
 -- The text of the first line: refused for a reason, or done.
 abbrev pub first_text : Option State → Reason → List ℕ
-first_text none why = with_feeds (reasoned_refused why ∷ [])
-first_text (some s) why = with_feeds (reasoned_done ∷ [])
+first_text None why = with_feeds (reasoned_refused why ∷ [])
+first_text (Some s) why = with_feeds (reasoned_done ∷ [])
 
 -- What the end of a line writes.
 unfoldable pub line_text : Progress → List ℕ

@@ -1,9 +1,9 @@
 // A line after the first, answered on the machine with the reason for its answer. Why an access is denied is asked of the state before the
 // step: at an intercept the step changes it.
+ghost use Rattle.std.specs.Prelude.{Err, Ok};
 ghost use Rattle.asked.specs.AskedAccess.{asked_by};
 ghost use Rattle.reason.specs.Reasons.{cause_of};
 ghost use Rattle.reasoned.specs.ReasonedParts.{ToldBy};
-ghost use Rattle.script.specs.declared.Parsed.TheVariants as said;
 ghost use Rattle.state.specs.Lent.{lent};
 
 use asked::asked_by;
@@ -36,7 +36,7 @@ fn tell_event(
     words: &mut [u64],
     event: Event,
 ) -> Told
-    ensures { ToldBy cause (said.Event event) result
+    ensures { ToldBy cause (Ok event) result
         (lent setup levels.old masks.old vps.old words.old)
         (lent setup levels.new masks.new vps.new words.new) }
 {

@@ -1,9 +1,9 @@
 -- Passing a machine on (request 2): reading what was written gives the same state and leaves the rest; only the text of a
 -- well-formed state is taken; and two well-formed states have the same lines exactly when they are equal. Assumes nothing.
+use Rattle.std.specs.Prelude.{Err, None, Ok, Option, Result, Some}
 use mathlib.Core.Path.{◌≡◌, refl, sym, ap, ◌∙◌, fun_ext}
 use mathlib.Core.Bool.{Bool, true, false, cond, ◌&&◌}
 use mathlib.Core.List.{List, [], ◌∷◌, ◌++◌, map}
-use mathlib.Core.Option.{Option, none, some}
 use Prim.Native.Nat.{ℕ, suc, ◌+◌, ◌/◌, ◌%◌, ◌≤◌}
 use native.Mathlib.Omega.{arith}
 use lib.Dec.{leb}
@@ -22,8 +22,6 @@ use Rattle.script.specs.EventForms.{processor, page}
 use Rattle.script.proofs.OneLine.{one-full-first-line}
 use Rattle.script.proofs.LineRoundTrip.{first_said}
 use Rattle.script.specs.Texts.{Numbers, first_text, first_line_of}
-use Rattle.script.specs.declared.Start.{Start}
-use Rattle.script.specs.declared.Start.TheVariants as start
 use Rattle.state.specs.Lent.{setup_of}
 use Rattle.model.specs.declared.machine.Setup.{Setup}
 use Rattle.records.specs.RecordClaims.{Exact}
@@ -36,6 +34,7 @@ use Rattle.records.proofs.Made.{made, flag-back}
 use Rattle.records.proofs.Sequence.{Small, Run, In, here, there, member, places-run, run-has, run-above, among_in, among-all, map_same}
 use Rattle.records.proofs.Tables.{get_or-table, length-table}
 use Rattle.records.proofs.PlainStates.{only-has, only-not, flag, small, plain-is}
+use Rattle.model.specs.declared.answer.Refusal.{Refusal}
 
 -- The clauses of an admissible first line.
 module _ (f : FirstLine) (h : admissible f ≡ true) where
@@ -164,7 +163,7 @@ module _ (s : State) (w : well_formed s ≡ true) (sized : Sized s) where
       (omega arith, (omega arith, (omega arith, (omega arith, (omega arith, (omega arith, tt))))))
 
   -- Reading what was written gives the same state, and leaves what follows.
-  pub passed-back : (rest : List (List ℕ)) → passed_on (record_lines s ++ rest) ≡ some (record { state = plain s; rest = rest })
+  pub passed-back : (rest : List (List ℕ)) → passed_on (record_lines s ++ rest) ≡ Some (record { state = plain s; rest = rest })
   unfolding passed_on first_record record_lines
   passed-back rest =
       rw (
@@ -237,9 +236,9 @@ module _ (c : Setup) where
       ∙ ap (state_from c) (only_same c (value_at (state_of_values c xs)) (among (places c) xs) (λ p h. values-at few xs e f p h))
 
 -- Only the records of a well-formed state are taken: they are those of the state that they give.
-module _ (line : List ℕ) (lines : List (List ℕ)) (f : FirstLine) (says : first_record line ≡ start.First f) (good : admissible f ≡ true) where
-  exact-taken : (t : Taken) → taking (places (setup_of f)) lines ≡ some t → (r : Passed) (b : Bool) → well_formed (state_of_values (setup_of f) t.values) ≡ b
-      → cond b (some (record { state = state_of_values (setup_of f) t.values; rest = t.rest })) none ≡ some r → Exact (line ∷ lines) r
+module _ (line : List ℕ) (lines : List (List ℕ)) (f : FirstLine) (says : first_record line ≡ Ok f) (good : admissible f ≡ true) where
+  exact-taken : (t : Taken) → taking (places (setup_of f)) lines ≡ Some t → (r : Passed) (b : Bool) → well_formed (state_of_values (setup_of f) t.values) ≡ b
+      → cond b (Some (record { state = state_of_values (setup_of f) t.values; rest = t.rest })) None ≡ Some r → Exact (line ∷ lines) r
   unfolding first_record record_lines state_of_values state_from
   exact-taken t e r false w h = no-some h
   exact-taken t e r true w h =
@@ -254,23 +253,23 @@ module _ (line : List ℕ) (lines : List (List ℕ)) (f : FirstLine) (says : fir
         whole = values-whole (setup_of f) (small-first f good) t.values o.count o.fits w;
       })
 
-  exact-first : (r : Passed) (t : Option Taken) → taking (places (setup_of f)) lines ≡ t → from_taken (setup_of f) t ≡ some r → Exact (line ∷ lines) r
-  exact-first r none e h = no-some h
-  exact-first r (some t) e h = exact-taken t e r (well_formed (state_of_values (setup_of f) t.values)) refl h
+  exact-first : (r : Passed) (t : Option Taken) → taking (places (setup_of f)) lines ≡ t → from_taken (setup_of f) t ≡ Some r → Exact (line ∷ lines) r
+  exact-first r None e h = no-some h
+  exact-first r (Some t) e h = exact-taken t e r (well_formed (state_of_values (setup_of f) t.values)) refl h
 
-pub passed-only : (lines : List (List ℕ)) (r : Passed) → passed_on lines ≡ some r → Exact lines r
+pub passed-only : (lines : List (List ℕ)) (r : Passed) → passed_on lines ≡ Some r → Exact lines r
 unfolding passed_on
 passed-only [] r h = no-some h
 passed-only (line ∷ lines) r h = go (first_record line) refl h
   where
-    by : (f : FirstLine) (b : Bool) → first_record line ≡ start.First f → admissible f ≡ b
-        → cond b (from_taken (setup_of f) (taking (places (setup_of f)) lines)) none ≡ some r → Exact (line ∷ lines) r
+    by : (f : FirstLine) (b : Bool) → first_record line ≡ Ok f → admissible f ≡ b
+        → cond b (from_taken (setup_of f) (taking (places (setup_of f)) lines)) None ≡ Some r → Exact (line ∷ lines) r
     by f true e a k = exact-first line lines f e a r (taking (places (setup_of f)) lines) refl k
     by f false e a k = no-some k
 
-    go : (first : Start) → first_record line ≡ first → from_first first lines ≡ some r → Exact (line ∷ lines) r
-    go (start.Malformed m) e k = no-some k
-    go (start.First f) e k = by f (admissible f) e refl k
+    go : (first : Result FirstLine Refusal) → first_record line ≡ first → from_first first lines ≡ Some r → Exact (line ∷ lines) r
+    go (Err m) e k = no-some k
+    go (Ok f) e k = by f (admissible f) e refl k
 
 -- Two well-formed states have the same records exactly when they are equal in all that is part of a state.
 lines_same : (f g : Place → ℕ) (ps : List Place) → ((p : Place) → In p ps → f p ≡ g p) → lines_at f ps ≡ lines_at g ps
@@ -287,7 +286,7 @@ plain_lines s w sized =
 module _ (s t : State) (w : well_formed s ≡ true) (u : well_formed t ≡ true) (sized : Sized s) (sized' : Sized t) where
   pub same_lines : record_lines s ≡ record_lines t → plain s ≡ plain t
   same_lines e =
-      let p : ◌≡◌ {A = Option Passed} (some (record { state = plain s; rest = [] })) (some (record { state = plain t; rest = [] })) =
+      let p : ◌≡◌ {A = Option Passed} (Some (record { state = plain s; rest = [] })) (Some (record { state = plain t; rest = [] })) =
       sym (passed-back s w sized []) ∙ ap (λ (l : List (List ℕ)). passed_on (l ++ [])) e ∙ passed-back t u sized' [] in
       ap (λ (r : Passed). r.state) (some_same p)
 

@@ -1,4 +1,5 @@
 -- The walk from the first place on goes along the sequence of the records. Assumes nothing.
+use Rattle.std.specs.Prelude.{None, Option, Some}
 use mathlib.Core.Path.{◌≡◌, refl, sym, ap, ◌∙◌}
 use mathlib.Core.Bool.{Bool, true, false, cond, and-false}
 use mathlib.Core.List.{List, [], ◌∷◌, ◌++◌}
@@ -13,25 +14,25 @@ use Rattle.model.specs.State.{level, top}
 use Rattle.script.specs.EventForms.{processor, page}
 use Rattle.model.specs.declared.machine.Setup.{Setup}
 use Rattle.records.specs.Places.{Place, Shared, Register, Tpr, Pending, Enabled, Secure, Reason, From, Rax, Rcx, Mask, Intercepts, Cr0Mask, rising, private_count, shared_count, level_places, processor_places, upper_places, context_places, page_places, per_upper, cr_mask_places, of_levels, of_processors, of_contexts, of_pages, of_intercepts, of_cr_masks, places, rank, end_rank}
-use Rattle.records.specs.Walk.{Next, At, Done, On, Nowhere, upper_from, upper_at, placed, to_cr_mask, to_intercepts, to_page, to_mask, to_contexts, to_context, to_register, to_pending, to_secure, to_processor, to_shared, to_level, next_of, first_due}
+use Rattle.records.specs.Walk.{On, Nowhere, upper_from, upper_at, placed, to_cr_mask, to_intercepts, to_page, to_mask, to_contexts, to_context, to_register, to_pending, to_secure, to_processor, to_shared, to_level, next_of, first_due}
 use Rattle.records.proofs.Sequence.{Run, counts, count-bounds}
 
 -- The walk from a goes over these places and comes to b.
-abbrev pub Walk : Setup → Next → List Place → Next → Type 0
+abbrev pub Walk : Setup → Option Place → List Place → Option Place → Type 0
 Walk c a [] b = a ≡ b
-Walk c a (p ∷ ps) b = (a ≡ At p) × Walk c (next_of c p) ps b
+Walk c a (p ∷ ps) b = (a ≡ Some p) × Walk c (next_of c p) ps b
 
 module _ (c : Setup) where
-  walk_ends : {a d b e : Next} (ps : List Place) → a ≡ d → e ≡ b → Walk c d ps e → Walk c a ps b
+  walk_ends : {a d b e : Option Place} (ps : List Place) → a ≡ d → e ≡ b → Walk c d ps e → Walk c a ps b
   walk_ends [] p q h = p ∙ h ∙ q
   walk_ends {a = a} {d = d} {b = b} {e = e} (x ∷ ps) p q (h, k) =
       (p ∙ h, walk_ends {a = next_of c x} {d = next_of c x} {b = b} {e = e} ps refl q k)
 
-  walk-append : (a m b : Next) (ps qs : List Place) → Walk c a ps m → Walk c m qs b → Walk c a (ps ++ qs) b
+  walk-append : (a m b : Option Place) (ps qs : List Place) → Walk c a ps m → Walk c m qs b → Walk c a (ps ++ qs) b
   walk-append a m b [] qs h k = walk_ends qs h refl k
   walk-append a m b (p ∷ ps) qs (h, g) k = (h, walk-append (next_of c p) m b ps qs g k)
 
-  walk-rising : (enter : ℕ → Next) (f : ℕ → List Place) (start count end : ℕ) → start + count ≡ end
+  walk-rising : (enter : ℕ → Option Place) (f : ℕ → List Place) (start count end : ℕ) → start + count ≡ end
       → ((i : ℕ) → start ≤ i → i < end → Walk c (enter i) (f i) (enter (suc i))) → Walk c (enter start) (rising start count f) (enter end)
   unfolding rising
   walk-rising enter f start zero end e h = ap enter (omega arith)
@@ -39,8 +40,8 @@ module _ (c : Setup) where
       walk-append (enter start) (enter (suc start)) (enter end) (f start) (rising (suc start) count f) (h start (omega arith) (omega arith))
       (walk-rising enter f (suc start) count end (omega arith) (λ i l m. h i (omega arith) m))
 
-  walk-each : (enter : ℕ → Next) (place : ℕ → Place) (start count end : ℕ) → start + count ≡ end
-      → ((i : ℕ) → start ≤ i → i < end → enter i ≡ At (place i)) → ((i : ℕ) → next_of c (place i) ≡ enter (i + 1))
+  walk-each : (enter : ℕ → Option Place) (place : ℕ → Place) (start count end : ℕ) → start + count ≡ end
+      → ((i : ℕ) → start ≤ i → i < end → enter i ≡ Some (place i)) → ((i : ℕ) → next_of c (place i) ≡ enter (i + 1))
       → Walk c (enter start) (rising start count (λ i. place i ∷ [])) (enter end)
   walk-each enter place start count end e h k =
       walk-rising enter (λ i. place i ∷ []) start count end e (λ i l m. (h i l m, k i ∙ ap enter (add-one i)))
@@ -53,7 +54,7 @@ module _ (c : Setup) where
       (λ t a b. (rw (le-leb t (top c.shape) (omega arith)), (refl, (refl, ap (to_level c) (add-one t))))))
 
   shared-walk : (v : Processor)
-      → Walk c (At (Shared v (private_count c.shape))) (rising (private_count c.shape) (shared_count c.shape) (λ r. Shared v r ∷ [])) (to_processor c (suc v.0))
+      → Walk c (Some (Shared v (private_count c.shape))) (rising (private_count c.shape) (shared_count c.shape) (λ r. Shared v r ∷ [])) (to_processor c (suc v.0))
   unfolding to_shared next_of
   shared-walk v =
       walk_ends (rising (private_count c.shape) (shared_count c.shape) (λ r. Shared v r ∷ []))
@@ -73,17 +74,17 @@ module _ (c : Setup) where
   registers : Processor → Level → List Place
   registers v l = rising 0 (private_count c.shape) (λ r. Register v l r ∷ [])
 
-  upper-walk : (v : Processor) (l : Level) → 0 < l.0 → Walk c (At (Enabled v l)) (upper_places v l) (to_context c v (suc l.0))
+  upper-walk : (v : Processor) (l : Level) → 0 < l.0 → Walk c (Some (Enabled v l)) (upper_places v l) (to_context c v (suc l.0))
   unfolding to_secure next_of secures
   upper-walk v l h =
-      walk-append (At (Enabled v l)) (At (Reason v l)) (to_context c v (suc l.0)) (Enabled v l ∷ secures v l) (Reason v l ∷ From v l ∷ Rax v l ∷ Rcx v l ∷ []) (
+      walk-append (Some (Enabled v l)) (Some (Reason v l)) (to_context c v (suc l.0)) (Enabled v l ∷ secures v l) (Reason v l ∷ From v l ∷ Rax v l ∷ Rcx v l ∷ []) (
         refl,
         walk_ends (secures v l) refl (rw (le-ltb l.0 l.0 (omega arith)))
             (walk-each (to_secure v l) (λ k. Secure v l (level k)) 0 l.0 l.0 (omega arith) (λ k a b. rw (lt-ltb k l.0 b)) (λ k. refl)),
       )
       (refl, (refl, (refl, (refl, ap (to_context c v) (add-one l.0)))))
 
-  registers-walk : (v : Processor) (l : Level) → l.0 ≤ top c.shape → Walk c (to_context c v l.0) (registers v l) (At (Tpr v l))
+  registers-walk : (v : Processor) (l : Level) → l.0 ≤ top c.shape → Walk c (to_context c v l.0) (registers v l) (Some (Tpr v l))
   unfolding to_context to_register next_of registers
   registers-walk v l h =
       walk_ends (registers v l)
@@ -97,13 +98,13 @@ module _ (c : Setup) where
   context-walk v l h =
       walk-append (to_context c v l.0) (to_pending c v l 4) (to_context c v (suc l.0)) (registers v l ++ Tpr v l ∷ rising 0 4 (λ i. Pending v l i ∷ []))
       (cond (eqb l.0 0) [] (upper_places v l))
-      (walk-append (to_context c v l.0) (At (Tpr v l)) (to_pending c v l 4) (registers v l) (Tpr v l ∷ rising 0 4 (λ i. Pending v l i ∷ []))
+      (walk-append (to_context c v l.0) (Some (Tpr v l)) (to_pending c v l 4) (registers v l) (Tpr v l ∷ rising 0 4 (λ i. Pending v l i ∷ []))
       (registers-walk v l h)
       (refl, walk-each (to_pending c v l) (Pending v l) 0 4 4 refl (λ i a b. rw (lt-ltb i 4 b)) (λ i. refl)))
       (go (eqb l.0 0) refl)
     where
       go : (t : Bool) → eqb l.0 0 ≡ t
-          → Walk c (cond t (to_context c v (l.0 + 1)) (At (Enabled v l))) (cond t [] (upper_places v l)) (to_context c v (suc l.0))
+          → Walk c (cond t (to_context c v (l.0 + 1)) (Some (Enabled v l))) (cond t [] (upper_places v l)) (to_context c v (suc l.0))
       go true e = ap (to_context c v) (add-one l.0)
       go false e = upper-walk v l (let apart : (l.0 ≡ 0 → ⊥) = eqb-false l.0 0 e in omega arith)
 
@@ -122,9 +123,9 @@ module _ (c : Setup) where
       (λ l k m. context-walk (processor v) (level l) (omega arith)))))
 
   -- Per processor and level from 1: where each level's places lead to those of the next, all lead to the end.
-  module _ (place : Processor → Level → Place) (f : Processor → Level → List Place) (end : Next)
-      (each : (v : Processor) (t : Level) → Walk c (At (place v t)) (f v t) (placed place end (upper_at c v (t.0 + 1)))) where
-    enter : ℕ → Next
+  module _ (place : Processor → Level → Place) (f : Processor → Level → List Place) (end : Option Place)
+      (each : (v : Processor) (t : Level) → Walk c (Some (place v t)) (f v t) (placed place end (upper_at c v (t.0 + 1)))) where
+    enter : ℕ → Option Place
     enter v = placed place end (upper_from c v)
 
     -- A processor is entered at level 1, if there is one.
@@ -152,9 +153,9 @@ module _ (c : Setup) where
   unfolding next_of
   intercepts-walk = uppers-walk Intercepts (λ v t. Intercepts v t ∷ []) (to_cr_mask (upper_from c 0)) (λ v t. (refl, refl))
 
-  cr-masks-walk : Walk c (to_cr_mask (upper_from c 0)) (of_cr_masks c) Done
+  cr-masks-walk : Walk c (to_cr_mask (upper_from c 0)) (of_cr_masks c) None
   unfolding next_of
-  cr-masks-walk = uppers-walk Cr0Mask cr_mask_places Done (λ v t. (refl, (refl, refl)))
+  cr-masks-walk = uppers-walk Cr0Mask cr_mask_places None (λ v t. (refl, (refl, refl)))
 
   pages-walk : Walk c (to_page c 0) (of_pages c) (to_intercepts c (upper_from c 0))
   unfolding to_page to_mask next_of
@@ -169,10 +170,10 @@ module _ (c : Setup) where
       )))
 
   -- The walk from the first place goes over the whole sequence.
-  pub places-walk : Walk c (first_due c) (places c) Done
+  pub places-walk : Walk c (first_due c) (places c) None
   unfolding places
   places-walk =
-      walk-append (to_level c 1) (to_cr_mask (upper_from c 0)) Done (of_levels c ++ of_processors c ++ of_contexts c ++ of_pages c ++ of_intercepts c) (of_cr_masks c)
+      walk-append (to_level c 1) (to_cr_mask (upper_from c 0)) None (of_levels c ++ of_processors c ++ of_contexts c ++ of_pages c ++ of_intercepts c) (of_cr_masks c)
       (walk-append (to_level c 1) (to_intercepts c (upper_from c 0)) (to_cr_mask (upper_from c 0)) (of_levels c ++ of_processors c ++ of_contexts c ++ of_pages c) (of_intercepts c)
       (walk-append (to_level c 1) (to_page c 0) (to_intercepts c (upper_from c 0)) (of_levels c ++ of_processors c ++ of_contexts c) (of_pages c)
       (walk-append (to_level c 1) (to_contexts c 0) (to_page c 0) (of_levels c ++ of_processors c) (of_contexts c)
@@ -182,19 +183,19 @@ module _ (c : Setup) where
       cr-masks-walk
 
 -- The walk does not end at a place.
-pub not-ended : {A : Type 0} {p : Place} → At p ≡ Done → A
+pub not-ended : {A : Type 0} {p : Place} → Some p ≡ None → A
 not-ended h = absurd (let z : ◌≡◌ {A = ℕ} 0 1 = cc in omega arith)
 
 -- The rank of what is due. It rises along the walk, and stays below the end.
-abbrev pub due_rank : Setup → Next → ℕ
-due_rank c (At p) = rank p
-due_rank c Done = end_rank c
+abbrev pub due_rank : Setup → Option Place → ℕ
+due_rank c (Some p) = rank p
+due_rank c None = end_rank c
 
-pub rank_rises : (c : Setup) (p : Place) (d : Next) (ps : List Place) → Walk c d ps Done → Run c (suc (rank p)) ps (end_rank c) → rank p < due_rank c d
-rank_rises c p (At q) [] w r = not-ended w
-rank_rises c p Done [] w r = r
-rank_rises c p (At q) (x ∷ ps) w r = let e : q ≡ x = (let k = w.0 in cc) in rw e r.0
-rank_rises c p Done (x ∷ ps) w r = not-ended (sym w.0)
+pub rank_rises : (c : Setup) (p : Place) (d : Option Place) (ps : List Place) → Walk c d ps None → Run c (suc (rank p)) ps (end_rank c) → rank p < due_rank c d
+rank_rises c p (Some q) [] w r = not-ended w
+rank_rises c p None [] w r = r
+rank_rises c p (Some q) (x ∷ ps) w r = let e : q ≡ x = (let k = w.0 in cc) in rw e r.0
+rank_rises c p None (x ∷ ps) w r = not-ended (sym w.0)
 
 pub run-below : (c : Setup) (ps : List Place) (lo hi : ℕ) → Run c lo ps hi → lo ≤ hi
 run-below c [] lo hi r = r

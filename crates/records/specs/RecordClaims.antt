@@ -1,6 +1,5 @@
 -- What is proved of records (02, request 2), each once for all states and texts (proofs/SameBytes.antt, proofs/Lengths.antt). Assumes nothing.
-use Rattle.std.specs.Prelude.{true, List, ◌++◌, ◌↔◌, ◌≡◌, ℕ, ◌<◌, length}
-use Rattle.std.proofs.Math.Option.{some}
+use Rattle.std.specs.Prelude.{true, List, ◌++◌, ◌↔◌, ◌≡◌, ℕ, ◌<◌, length, Some}
 use Rattle.model.specs.State.{State}
 use Rattle.model.specs.WellFormed.{well_formed}
 use Rattle.script.specs.Records.{lines}
@@ -11,7 +10,7 @@ use Rattle.records.specs.Values.{plain, Sized}
 -- Reading what was written gives the same state, and leaves the script that follows.
 abbrev pub ReadBack : Type 0
 ReadBack = (s : State) → well_formed s ≡ true → Sized s → (script : List ℕ)
-    → passed_on (lines (records_text s ++ script)) ≡ some (record { state = plain s; rest = lines script })
+    → passed_on (lines (records_text s ++ script)) ≡ Some (record { state = plain s; rest = lines script })
 
 -- What is accepted is the records of the state that it gives, and what follows them. The state is well formed, and has nothing in it
 -- that is no part of a state.
@@ -21,7 +20,7 @@ pub record Exact (lines : List (List ℕ)) (r : Passed) : Type 0 where
   pub whole : plain r.state ≡ r.state
 
 abbrev pub OnlyRecords : Type 0
-OnlyRecords = (text : List ℕ) (r : Passed) → passed_on (lines text) ≡ some r → Exact (lines text) r
+OnlyRecords = (text : List ℕ) (r : Passed) → passed_on (lines text) ≡ Some r → Exact (lines text) r
 
 -- Two well-formed states have the same bytes exactly when they are equal in all that is part of a state.
 abbrev pub SameBytes : Type 0

@@ -1,8 +1,8 @@
 -- The two forms of a first line (02, request 1): which one a line has, and what its numbers make. Assumes nothing.
+use Rattle.std.specs.Prelude.{Err, None, Ok, Option, Some}
 use Prim.Native.Nat.{ℕ, suc, ◌≤◌}
 use mathlib.Core.Bool.{Bool, true, false, cond}
 use mathlib.Core.List.{List, [], ◌∷◌}
-use mathlib.Core.Option.{Option, none, some}
 use mathlib.Core.Path.{◌≡◌, refl, sym, ap, ◌∙◌}
 use borrow.Author.Tests.{eqb-true, eq-eqb, ne_eqb, eqb-false}
 use native.Mathlib.Omega.{arith}
@@ -13,7 +13,6 @@ use Rattle.script.specs.Bytes.{begun, bytes}
 use Rattle.script.specs.First.{first_form, first_line}
 use Rattle.script.specs.LineForms.{UnknownWord, fields, in_form, longest_line, made, numbers_in, said, tab}
 use Rattle.script.specs.NumberRows.{Row, fields_after, is_row, stored, until_tab}
-use Rattle.script.specs.declared.Start.TheVariants.{First, Malformed}
 use Rattle.script.proofs.FieldPlaces.{fields-first, until-within}
 use Rattle.script.proofs.Naming.{begun-same, form_among, line-said}
 use Rattle.script.proofs.Same.{differ, same_true}
@@ -26,10 +25,10 @@ few-numbers false = omega arith
 
 -- What a line of at most 256 bytes says in one of them.
 pub said-first : (seventh : Bool) (line : List ℕ) → length line ≤ longest_line
-    → said First Malformed (first_form seventh ∷ []) line ≡ cond (begun line (bytes "vsm")) (in_form First Malformed (first_form seventh) (fields_after line 3)) (Malformed UnknownWord)
+    → said Ok Err (first_form seventh ∷ []) line ≡ cond (begun line (bytes "vsm")) (in_form Ok Err (first_form seventh) (fields_after line 3)) (Err UnknownWord)
 unfolding form_among
-said-first true line short = line-said First Malformed (first_form true ∷ []) line refl short
-said-first false line short = line-said First Malformed (first_form false ∷ []) line refl short
+said-first true line short = line-said Ok Err (first_form true ∷ []) line refl short
+said-first false line short = line-said Ok Err (first_form false ∷ []) line refl short
 
 -- A line that begins with `vsm` has a seventh field where six fields come after the word.
 pub seventh-field : (line : List ℕ) → begun line (bytes "vsm") ≡ true → eqb (length (fields line)) 7 ≡ eqb (length (fields_after line 3)) 6
@@ -50,8 +49,8 @@ sixth-number : (more : List (List ℕ)) {ok : Bool} {values : List ℕ} → Row 
 sixth-number more {ok} {values} row h = go (numbers_in more) (sym row.tested ∙ h) (row.held h)
   where
     go : (numbers : Option (List ℕ)) → is_row 5 numbers ≡ true → values ≡ stored numbers → get_or values 5 0 ≡ 0
-    go none t v = differ t
-    go (some numbers) t v =
+    go None t v = differ t
+    go (Some numbers) t v =
         let five : length numbers ≡ 5 = eqb-true (length numbers) 5 t in
         ap (λ (l : List ℕ). get_or l 5 0) v ∙ stored-number numbers 5 (omega arith) ∙ get_or-eq_default numbers 0 (omega arith)
 

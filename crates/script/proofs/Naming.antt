@@ -1,5 +1,6 @@
 -- Laws of the word that a line begins with: how it is compared, and that it decides what the line says.
 -- Assumes nothing.
+use Rattle.std.specs.Prelude.{Err, Ok, Result, None, Some, Option}
 use Prim.Native.Nat.{ℕ, zero, suc, ◌+◌, ◌≤◌, ◌<◌}
 use mathlib.Core.Bool.{Bool, true, false, not, cond, ◌&&◌}
 use mathlib.Core.List.{List, [], ◌∷◌, map}
@@ -17,14 +18,12 @@ use Rattle.script.specs.Bytes.{begun, same}
 use Rattle.script.specs.LineForms.{Form, among, in_form, longest_line, said, tab}
 use Rattle.script.specs.NumberRows.{fields_after, until_tab}
 use Rattle.script.specs.Search.{until_byte}
-use Rattle.script.specs.EventWords.{form_of, named_among, naming}
-use Rattle.script.specs.declared.Parsed.{Parsed}
-use Rattle.script.specs.declared.Parsed.TheVariants as parsed
+use Rattle.script.specs.EventWords.{form_of, named_among, naming, named}
 use Rattle.script.specs.declared.words.Named.{Named}
-use Rattle.script.specs.declared.words.Named.TheVariants.{As, Nothing}
 use Rattle.script.specs.declared.words.Word.{Word}
 use Rattle.script.proofs.FieldPlaces.{fields-first, until-within}
 use Rattle.script.proofs.Same.{differ, every, same_true}
+use Rattle.model.specs.declared.event.Event.{Event}
 
 neither : (t : Bool) → (t && false) ≡ false
 neither true = refl
@@ -135,18 +134,18 @@ module _ {A R : Type 0} (good : A → R) (bad : Refusal → R) where
   too_long forms line h = rw (lt-ltb longest_line (length line) h)
 
 -- What a line says that begins with an event word, or with none.
-abbrev pub named_said : Named → List ℕ → Parsed
-named_said Nothing line = parsed.Malformed UnknownWord
-named_said (As word end takes) line = in_form parsed.Event parsed.Malformed (form_of word) (fields_after line (length (form_of word).word))
+abbrev pub named_said : Option Named → List ℕ → Result Event Refusal
+named_said None line = Err UnknownWord
+named_said (Some n) line = in_form Ok Err (form_of n.word) (fields_after line (length (form_of n.word).word))
 
 pub named-said : (some_words : List Word) (line : List ℕ)
-    → form_among parsed.Event parsed.Malformed (map form_of some_words) line ≡ named_said (named_among some_words line) line
+    → form_among Ok Err (map form_of some_words) line ≡ named_said (named_among some_words line) line
 unfolding form_among
 named-said [] line = refl
 named-said (word ∷ words) line = go (begun line (form_of word).word) (named-said words line)
   where
-    go : (t : Bool) → form_among parsed.Event parsed.Malformed (map form_of words) line ≡ named_said (named_among words line) line
-        → cond t (named_said (naming word) line) (form_among parsed.Event parsed.Malformed (map form_of words) line)
+    go : (t : Bool) → form_among Ok Err (map form_of words) line ≡ named_said (named_among words line) line
+        → cond t (named_said (naming word) line) (form_among Ok Err (map form_of words) line)
         ≡ named_said (cond t (naming word) (named_among words line)) line
     go true ih = refl
     go false ih = ih
@@ -189,7 +188,7 @@ by_first (word ∷ words) line byte h e =
         rw (other-first line (form_of word).word (ltb-true 0 (length (form_of word).word) k) (λ d. eqb-false _ _ s (d ∙ e))) ih
 
 -- An empty line begins with no word.
-pub none-empty : (some_words : List Word) (line : List ℕ) → every has_byte some_words ≡ true → length line ≡ 0 → Nothing ≡ named_among some_words line
+pub none-empty : (some_words : List Word) (line : List ℕ) → every has_byte some_words ≡ true → length line ≡ 0 → None ≡ named_among some_words line
 none-empty [] line h e = refl
 none-empty (word ∷ words) line h e =
     let (here, more) = and_parts (has_byte word) (every has_byte words) h in
@@ -202,7 +201,7 @@ pub data NoneFirst (byte : ℕ) : List Word → Type 0 where
   ◌and◌ : {word : Word} {more : List Word} → (byte ≡ get_or (form_of word).word 0 0 → ⊥) → NoneFirst byte more → NoneFirst byte (word ∷ more)
 
 pub none_first : (some_words : List Word) (line : List ℕ) → every has_byte some_words ≡ true → NoneFirst (get_or line 0 0) some_words
-    → Nothing ≡ named_among some_words line
+    → None ≡ named_among some_words line
 none_first [] line h done = refl
 none_first (word ∷ words) line h (here and later) =
     let (has, more) = and_parts (has_byte word) (every has_byte words) h in
@@ -218,20 +217,17 @@ pub record Found (line : List ℕ) (word : Word) (end takes : ℕ) : Type 0 wher
 abbrev pub few_numbers : Word → Bool
 few_numbers word = leb (form_of word).count 7
 
-pub found : (some_words : List Word) (line : List ℕ) {word : Word} {end takes : ℕ} → every few_numbers some_words ≡ true
-    → named_among some_words line ≡ As word end takes → Found line word end takes
+pub found : (some_words : List Word) (line : List ℕ) {n : Named} → every few_numbers some_words ≡ true
+    → named_among some_words line ≡ Some n → Found line n.word n.end n.takes
 found [] line h e = absurd (let z : ◌≡◌ {A = ℕ} 0 1 = cc in omega arith)
-found (first ∷ words) line {word} {end} {takes} h e =
+found (first ∷ words) line {n} h e =
     let (here, more) = and_parts (few_numbers first) (every few_numbers words) h in
     go (begun line (form_of first).word) refl (leb-true (form_of first).count 7 here) (λ d. found words line more d) e
   where
     go : (t : Bool) → begun line (form_of first).word ≡ t → (form_of first).count ≤ 7
-        → (named_among words line ≡ As word end takes → Found line word end takes)
-        → cond t (naming first) (named_among words line) ≡ As word end takes → Found line word end takes
+        → (named_among words line ≡ Some n → Found line n.word n.end n.takes)
+        → cond t (naming first) (named_among words line) ≡ Some n → Found line n.word n.end n.takes
     go true b few ih e =
-        let same_word : first ≡ word = cc in
-        let ends : end ≡ length (form_of first).word = cc in
-        let counts : takes ≡ (form_of first).count = cc in
-        let here : Found line first end takes = record { ends = ends; counts = counts; within = begun-within line (form_of first).word b; few = few } in
-        rw same_word at here
+        let same : ◌≡◌ {A = Named} (record { word = first; end = length (form_of first).word; takes = (form_of first).count }) n = cc in
+        rw (← same) (record { ends = refl; counts = refl; within = begun-within line (form_of first).word b; few = few })
     go false b few ih e = ih e

@@ -1,9 +1,9 @@
 -- Laws of the loop that reads the numbers of a line into a row.
 -- They keep its invariant, `Reading`, and say what was read at its end. Assumes nothing.
+use Rattle.std.specs.Prelude.{None, Option, Some}
 use Prim.Native.Nat.{ℕ, zero, suc, ◌+◌, ◌-◌, ◌≤◌, ◌<◌}
 use mathlib.Core.Bool.{Bool, true, false}
 use mathlib.Core.List.{List, [], ◌∷◌, ◌++◌, append_assoc, append-nil}
-use mathlib.Core.Option.{Option, none, some}
 use mathlib.Core.Path.{◌≡◌, refl, sym, ap, ◌∙◌}
 use borrow.Author.Tests.{eq-eqb, eqb-false, eqb-true, leb-false, leb-true, ltb-false, ltb-true, ne_eqb}
 use native.Mathlib.Numerals.{add-one}
@@ -13,8 +13,6 @@ use lib.ListN.{drop, drop_of_length-le, get_or, length, length-append, replicate
 use lib.Seq.{drop-cons, sets}
 use Rattle.decimal.proofs.DigitReading.{digit-byte, followed, no_number as not-number}
 use Rattle.decimal.specs.Read.{digit_of, read_decimal}
-use Rattle.decimal.specs.declared.Number.{Number}
-use Rattle.decimal.specs.declared.Number.TheVariants.{Value, Malformed}
 use Rattle.script.specs.LineForms.{fields, followed_by, in_front, numbers_in, tab}
 use Rattle.script.specs.NumberRows.{NumberEnd, Row, field_end, fields_after, is_row}
 use Rattle.script.proofs.FieldPlaces.{at_byte, fields-first, next_field, no_field}
@@ -23,43 +21,43 @@ use Rattle.script.proofs.StoredTexts.{sets-append}
 
 -- Numbers that were read, and those after them.
 abbrev pub joined : List ℕ → Option (List ℕ) → Option (List ℕ)
-joined read none = none
-joined read (some more) = some (read ++ more)
+joined read None = None
+joined read (Some more) = Some (read ++ more)
 
 joined-none : (more : Option (List ℕ)) → more ≡ joined [] more
-joined-none none = refl
-joined-none (some more) = refl
+joined-none None = refl
+joined-none (Some more) = refl
 
-joined-one : (read : List ℕ) (n : ℕ) (more : Option (List ℕ)) → joined read (followed_by (Value n) more) ≡ joined (read ++ n ∷ []) more
-joined-one read n none = refl
-joined-one read n (some more) = rw append_assoc
+joined-one : (read : List ℕ) (n : ℕ) (more : Option (List ℕ)) → joined read (followed_by (Some n) more) ≡ joined (read ++ n ∷ []) more
+joined-one read n None = refl
+joined-one read n (Some more) = rw append_assoc
 
 -- A number after as many as are taken.
-one_more : (takes : ℕ) (read : List ℕ) (next : Number) (more : Option (List ℕ)) → length read ≡ takes
+one_more : (takes : ℕ) (read : List ℕ) (next : Option ℕ) (more : Option (List ℕ)) → length read ≡ takes
     → false ≡ is_row takes (joined read (followed_by next more))
-one_more takes read Malformed more h = refl
-one_more takes read (Value n) none h = refl
-one_more takes read (Value n) (some more) h =
+one_more takes read None more h = refl
+one_more takes read (Some n) None h = refl
+one_more takes read (Some n) (Some more) h =
     rw (ne_eqb (length (read ++ n ∷ more)) takes (λ e. omega (arith, length-append read (n ∷ more))))
 
 -- There are as many numbers as fields.
-pub numbers-length : (more : List (List ℕ)) (numbers : List ℕ) → numbers_in more ≡ some numbers → length numbers ≡ length more
+pub numbers-length : (more : List (List ℕ)) (numbers : List ℕ) → numbers_in more ≡ Some numbers → length numbers ≡ length more
 unfolding numbers_in
 numbers-length [] numbers e = let none_read : numbers ≡ [] = cc in ap length none_read
 numbers-length (field ∷ more) numbers e = go (read_decimal field) (numbers_in more) (numbers-length more) e
   where
-    go : (first : Number) (rest : Option (List ℕ)) → ((n : List ℕ) → rest ≡ some n → length n ≡ length more) → followed_by first rest ≡ some numbers
+    go : (first : Option ℕ) (rest : Option (List ℕ)) → ((n : List ℕ) → rest ≡ Some n → length n ≡ length more) → followed_by first rest ≡ Some numbers
         → length numbers ≡ suc (length more)
-    go Malformed rest ih e = absurd (let z : ◌≡◌ {A = ℕ} 0 1 = cc in omega arith)
-    go (Value n) none ih e = absurd (let z : ◌≡◌ {A = ℕ} 0 1 = cc in omega arith)
-    go (Value n) (some rest) ih e = let whole : numbers ≡ n ∷ rest = cc in ap length whole ∙ ap suc (ih rest refl)
+    go None rest ih e = absurd (let z : ◌≡◌ {A = ℕ} 0 1 = cc in omega arith)
+    go (Some n) None ih e = absurd (let z : ◌≡◌ {A = ℕ} 0 1 = cc in omega arith)
+    go (Some n) (Some rest) ih e = let whole : numbers ≡ n ∷ rest = cc in ap length whole ∙ ap suc (ih rest refl)
 
 -- What was read is no row.
 pub no_row : {takes : ℕ} {more : List (List ℕ)} {values : List ℕ} → false ≡ is_row takes (numbers_in more) → Row takes more false values
 no_row e = record { tested = e; held = λ h. differ h }
 
 -- A field that says a number does not begin with a tab.
-not-tab : (field : List ℕ) (n : ℕ) → read_decimal field ≡ Value n → get_or field 0 0 ≡ tab → ⊥
+not-tab : (field : List ℕ) (n : ℕ) → read_decimal field ≡ Some n → get_or field 0 0 ≡ tab → ⊥
 unfolding read_decimal
 not-tab [] n e t = not-number e
 not-tab (byte ∷ field) n e t =
@@ -81,7 +79,7 @@ none_read line from takes h =
     record { read = []; counted = refl; within = omega arith; place = h; stored = refl; rest = joined-none (numbers_in (fields_after line from)) }
 
 -- A tab at the end of a line has an empty field after it.
-empty-field : (line : List ℕ) (at : ℕ) → at + 1 ≡ length line → numbers_in (fields_after line at) ≡ none
+empty-field : (line : List ℕ) (at : ℕ) → at + 1 ≡ length line → numbers_in (fields_after line at) ≡ None
 unfolding numbers_in fields read_decimal
 empty-field line at h =
     let over : length line ≤ suc at = omega arith in
@@ -114,15 +112,15 @@ module _ {line : List ℕ} {from takes : ℕ} {values : List ℕ} {count at : �
   one_field more = rw (next_field line at (field_end line (at + 1)) more refl)
 
   -- It was found to end at `end`, and to say `next`.
-  module _ (end : ℕ) {next : Number} (more : at + 1 < length line) (found : NumberEnd line (at + 1) end)
+  module _ (end : ℕ) {next : Option ℕ} (more : at + 1 < length line) (found : NumberEnd line (at + 1) end)
       (says : next ≡ read_decimal (take (end - (at + 1)) (drop (at + 1) line))) where
-    pub number_read : {n : ℕ} → next ≡ Value n → count < takes → Reading line from takes (set values count n) (count + 1) end
+    pub number_read : {n : ℕ} → next ≡ Some n → count < takes → Reading line from takes (set values count n) (count + 1) end
     unfolding read_decimal
     number_read {n} e room =
         let plain : get_or line (at + 1) 0 ≡ tab → ⊥ = first_plain (end - (at + 1)) n (sym says ∙ e) in
         let ends : end ≡ field_end line (at + 1) = found.ends plain in
-        let field : numbers_in (fields_after line at) ≡ followed_by (Value n) (numbers_in (fields_after line end)) =
-        (rw (← ends) at (one_field (omega arith))) ∙ ap (λ (x : Number). followed_by x (numbers_in (fields_after line end))) (sym says ∙ e) in
+        let field : numbers_in (fields_after line at) ≡ followed_by (Some n) (numbers_in (fields_after line end)) =
+        (rw (← ends) at (one_field (omega arith))) ∙ ap (λ (x : Option ℕ). followed_by x (numbers_in (fields_after line end))) (sym says ∙ e) in
         record {
           read = w.read ++ n ∷ [];
           counted = omega (arith, w.counted, length-append w.read (n ∷ []));
@@ -134,11 +132,11 @@ module _ {line : List ℕ} {from takes : ℕ} {values : List ℕ} {count at : �
           rest = w.rest ∙ ap (joined w.read) field ∙ joined-one w.read n (numbers_in (fields_after line end));
         }
       where
-        first_plain : (k n : ℕ) → read_decimal (take k (drop (at + 1) line)) ≡ Value n → get_or line (at + 1) 0 ≡ tab → ⊥
+        first_plain : (k n : ℕ) → read_decimal (take k (drop (at + 1) line)) ≡ Some n → get_or line (at + 1) 0 ≡ tab → ⊥
         first_plain zero n e t = not-number e
         first_plain (suc k) n e t = not-tab (take (suc k) (drop (at + 1) line)) n e (rw (drop-cons line (at + 1) 0 more) t)
 
-    pub no_number : next ≡ Malformed → false ≡ is_row takes (numbers_in (fields_after line from))
+    pub no_number : next ≡ None → false ≡ is_row takes (numbers_in (fields_after line from))
     unfolding read_decimal
     no_number e = go (eqb (get_or line (at + 1) 0) tab) refl
       where

@@ -1,11 +1,11 @@
 -- The theorem that an event has exactly one line: what is read as an event is the line of this event. A first line has one with a
 -- seventh field, and where SMEP is not available one without.
 -- Assumes nothing.
+use Rattle.std.specs.Prelude.{Err, None, Ok, Option, Some, Result}
 use Prim.Native.Nat.{ℕ, zero, suc}
 use mathlib.Core.Bool.{Bool, true, false, cond}
 use mathlib.Core.List.{List, [], ◌∷◌, ◌++◌, map}
 use mathlib.Core.Logic.{◌⊎◌, inl, inr}
-use mathlib.Core.Option.{Option, none, some}
 use mathlib.Core.Path.{◌≡◌, refl, sym, ap, ◌∙◌}
 use borrow.Author.Tests.{eqb-true}
 use native.Mathlib.Omega.{arith}
@@ -21,8 +21,6 @@ use Rattle.script.specs.EventForms.{events, line_event}
 use Rattle.script.specs.First.{first_form, line_first, vsm, vsm_short}
 use Rattle.script.specs.LineForms.{Form, among, fields, in_form, longest_line, made, numbers_in, of_numbers, said, said_in}
 use Rattle.script.specs.Texts.{Text, action_text, event_line, event_text, first_line_of, first_text, parted, short_first_line_of, short_first_text, text, together, written}
-use Rattle.script.specs.declared.Parsed.TheVariants as parsed
-use Rattle.script.specs.declared.Start.TheVariants as start
 use Rattle.script.proofs.Parted.{numbers-text, put-together}
 use Rattle.script.proofs.NumberReading.{numbers-length}
 use Rattle.script.proofs.Same.{same_true}
@@ -61,8 +59,8 @@ module _ {A R : Type 0} (good : A → R) (bad : Refusal → R) (text_of : A → 
       go : (t : Bool) (found : Option (List ℕ)) → eqb (length more) form.count ≡ t → numbers_in more ≡ found
           → cond t (of_numbers good bad form found) (bad WrongFieldCount) ≡ good a
           → (numbers : List ℕ) × (more ≡ map decimal numbers) × (text_of a ≡ text form numbers)
-      go true none c e h = absurd (apart NotANumber a h)
-      go true (some numbers) c e h =
+      go true None c e h = absurd (apart NotANumber a h)
+      go true (Some numbers) c e h =
           let counted : form.count ≡ length numbers = sym (numbers-length more numbers e ∙ eqb-true (length more) form.count c) in (
             numbers,
             numbers-text more numbers e,
@@ -104,8 +102,8 @@ module _ {A R : Type 0} (good : A → R) (bad : Refusal → R) (text_of : A → 
     made_in more a = go (eqb (length more) form.count) (numbers_in more)
       where
         go : (t : Bool) (found : Option (List ℕ)) → cond t (of_numbers good bad form found) (bad WrongFieldCount) ≡ good a → P a
-        go true none h = absurd (apart NotANumber a h)
-        go true (some numbers) h = rw (exact _ a h) at (makes numbers)
+        go true None h = absurd (apart NotANumber a h)
+        go true (Some numbers) h = rw (exact _ a h) at (makes numbers)
         go false found h = absurd (apart WrongFieldCount a h)
 
     made-among : (word : List ℕ) (more : List (List ℕ)) (a : A) → among good bad (form ∷ []) word more ≡ good a → P a
@@ -126,10 +124,10 @@ module _ {A R : Type 0} (good : A → R) (bad : Refusal → R) (text_of : A → 
         go false (word ∷ more) h = made-among word more a h
 
 -- A line that is read as an event is the line of the event.
-event-apart : (r : Refusal) (e : Event) → parsed.Malformed r ≡ parsed.Event e → ⊥
+event-apart : (r : Refusal) (e : Event) → ◌≡◌ {A = Result Event Refusal} (Err r) (Ok e) → ⊥
 event-apart r e h = let z : ◌≡◌ {A = ℕ} 0 1 = cc in omega arith
 
-event-exact : (d e : Event) → parsed.Event d ≡ parsed.Event e → d ≡ e
+event-exact : (d e : Event) → ◌≡◌ {A = Result Event Refusal} (Ok d) (Ok e) → d ≡ e
 event-exact d e h = cc
 
 event-texts : Each (Agrees event_text) events
@@ -140,16 +138,16 @@ event-texts =
     and (λ n. refl) and (λ n. refl) and (λ n. refl) and (λ n. refl) and (λ n. refl) and (λ n. refl) and (λ n. refl)
     and (λ n. refl) and done
 
-pub one-event-line : (line : List ℕ) (e : Event) → line_event line ≡ parsed.Event e → line ≡ event_line e
+pub one-event-line : (line : List ℕ) (e : Event) → line_event line ≡ Ok e → line ≡ event_line e
 unfolding line_event event_line
-one-event-line line e h = one-said parsed.Event parsed.Malformed event_text event-apart event-exact events line e event-texts h
+one-event-line line e h = one-said Ok Err event_text event-apart event-exact events line e event-texts h
 
 -- A line that is read as a first line is one of the two lines of what it says: with a seventh field, or without one, where SMEP is
 -- not available.
-first-apart : (r : Refusal) (first : FirstLine) → start.Malformed r ≡ start.First first → ⊥
+first-apart : (r : Refusal) (first : FirstLine) → ◌≡◌ {A = Result FirstLine Refusal} (Err r) (Ok first) → ⊥
 first-apart r first h = let z : ◌≡◌ {A = ℕ} 0 1 = cc in omega arith
 
-first-exact : (first other : FirstLine) → start.First first ≡ start.First other → first ≡ other
+first-exact : (first other : FirstLine) → ◌≡◌ {A = Result FirstLine Refusal} (Ok first) (Ok other) → first ≡ other
 first-exact first other h = cc
 
 first-texts : Each (Agrees first_text) (vsm ∷ [])
@@ -160,21 +158,21 @@ short-first-texts : Each (Agrees short_first_text) (vsm_short ∷ [])
 unfolding short_first_text
 short-first-texts = (λ n. refl) and done
 
-pub one-full-first-line : (line : List ℕ) (first : FirstLine) → said start.First start.Malformed (vsm ∷ []) line ≡ start.First first
+pub one-full-first-line : (line : List ℕ) (first : FirstLine) → said Ok Err (vsm ∷ []) line ≡ Ok first
     → line ≡ first_line_of first
 unfolding first_line_of
-one-full-first-line line first h = one-said start.First start.Malformed first_text first-apart first-exact (vsm ∷ []) line first first-texts h
+one-full-first-line line first h = one-said Ok Err first_text first-apart first-exact (vsm ∷ []) line first first-texts h
 
-pub one-first-line : (line : List ℕ) (first : FirstLine) → line_first line ≡ start.First first
+pub one-first-line : (line : List ℕ) (first : FirstLine) → line_first line ≡ Ok first
     → (line ≡ first_line_of first) ⊎ ((line ≡ short_first_line_of first) × (first.smep ≡ 0))
 unfolding line_first first_line_of short_first_line_of
 one-first-line line first = go (eqb (length (fields line)) 7)
   where
-    go : (seventh : Bool) → said start.First start.Malformed (first_form seventh ∷ []) line ≡ start.First first
+    go : (seventh : Bool) → said Ok Err (first_form seventh ∷ []) line ≡ Ok first
         → (line ≡ first_line_of first) ⊎ ((line ≡ short_first_line_of first) × (first.smep ≡ 0))
     go true h = inl (one-full-first-line line first h)
     go false h =
         inr (
-          one-said start.First start.Malformed short_first_text first-apart first-exact (vsm_short ∷ []) line first short-first-texts h,
-          made-said start.First start.Malformed short_first_text first-apart first-exact vsm_short (λ f. f.smep ≡ 0) (λ n. refl) line first h,
+          one-said Ok Err short_first_text first-apart first-exact (vsm_short ∷ []) line first short-first-texts h,
+          made-said Ok Err short_first_text first-apart first-exact vsm_short (λ f. f.smep ≡ 0) (λ n. refl) line first h,
         )

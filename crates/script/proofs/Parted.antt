@@ -1,9 +1,9 @@
 -- Laws of a line that is put together from its word and its numbers: its fields are these again, and it is not long.
 -- Assumes nothing.
+use Rattle.std.specs.Prelude.{None, Option, Some}
 use Prim.Native.Nat.{ℕ, ◌*◌, ◌≤◌}
 use mathlib.Core.Bool.{Bool, true, false, not, ◌&&◌, cond}
 use mathlib.Core.List.{List, [], ◌∷◌, ◌++◌, map}
-use mathlib.Core.Option.{Option, none, some}
 use mathlib.Core.Path.{◌≡◌, refl, ap}
 use borrow.Author.Tests.{eqb-true, ne_eqb}
 use native.Mathlib.Omega.{arith}
@@ -15,8 +15,6 @@ use Rattle.decimal.proofs.OneText.{one-text}
 use Rattle.decimal.proofs.DecimalRoundTrip.{round_trip}
 use Rattle.decimal.specs.Read.{read_decimal}
 use Rattle.decimal.specs.Write.{OnlyDigits, decimal}
-use Rattle.decimal.specs.declared.Number.{Number}
-use Rattle.decimal.specs.declared.Number.TheVariants.{Value, Malformed}
 use Rattle.script.specs.LineForms.{fields, followed_by, in_front, numbers_in, tab}
 use Rattle.script.specs.NumberRows.{fields_after, until_tab}
 use Rattle.script.specs.Texts.{Numbers, parted, together}
@@ -64,25 +62,25 @@ pub fields-of : (word numbers : List ℕ) → no_tab word ≡ true → fields (w
 fields-of word numbers h = fields-together word (map decimal numbers) h (no-tab-numbers numbers)
 
 -- Numbers in decimal are read as these numbers.
-pub numbers-read : (numbers : List ℕ) → Numbers numbers → numbers_in (map decimal numbers) ≡ some numbers
+pub numbers-read : (numbers : List ℕ) → Numbers numbers → numbers_in (map decimal numbers) ≡ Some numbers
 unfolding numbers_in
 numbers-read [] h = refl
 numbers-read (n ∷ numbers) (fits, more) = rw (round_trip n fits, numbers-read numbers more)
 
 -- No other fields are.
-no-numbers : {A : Type 0} {numbers : List ℕ} → none ≡ some numbers → A
+no-numbers : {A : Type 0} {numbers : List ℕ} → None ≡ Some numbers → A
 no-numbers h = absurd (let z : ◌≡◌ {A = ℕ} 0 1 = cc in omega arith)
 
-pub numbers-text : (texts : List (List ℕ)) (numbers : List ℕ) → numbers_in texts ≡ some numbers → texts ≡ map decimal numbers
+pub numbers-text : (texts : List (List ℕ)) (numbers : List ℕ) → numbers_in texts ≡ Some numbers → texts ≡ map decimal numbers
 unfolding numbers_in
 numbers-text [] numbers h = let e : [] ≡ numbers = cc in ap (map decimal) e
 numbers-text (field ∷ texts) numbers h = go (read_decimal field) (numbers_in texts) refl (numbers-text texts) h
   where
-    go : (first : Number) (more : Option (List ℕ)) → read_decimal field ≡ first → ((rest : List ℕ) → more ≡ some rest → texts ≡ map decimal rest)
-        → followed_by first more ≡ some numbers → field ∷ texts ≡ map decimal numbers
-    go Malformed more says ih k = no-numbers k
-    go (Value n) none says ih k = no-numbers k
-    go (Value n) (some rest) says ih k =
+    go : (first : Option ℕ) (more : Option (List ℕ)) → read_decimal field ≡ first → ((rest : List ℕ) → more ≡ Some rest → texts ≡ map decimal rest)
+        → followed_by first more ≡ Some numbers → field ∷ texts ≡ map decimal numbers
+    go None more says ih k = no-numbers k
+    go (Some n) None says ih k = no-numbers k
+    go (Some n) (Some rest) says ih k =
         let e : n ∷ rest ≡ numbers = cc in
         rw (← e, (one-text field n says).1, ih rest refl)
 

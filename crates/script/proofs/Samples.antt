@@ -1,5 +1,6 @@
 -- Lines that are malformed (01, "Script and listing"), and one whose numbers are out of range and given on, read by computation.
 -- Assumes nothing.
+use Rattle.std.specs.Prelude.{Err, Ok}
 use mathlib.Core.List.{List, [], ◌∷◌, map}
 use mathlib.Core.Path.{◌≡◌, refl}
 use Prim.Native.String.{String}
@@ -10,7 +11,6 @@ use Rattle.model.specs.declared.event.Event.TheVariants.{Int}
 use Rattle.script.specs.Bytes.{bytes, same}
 use Rattle.script.specs.EventForms.{line_event, processor}
 use Rattle.script.specs.LineForms.{among, fields, numbers_in, said}
-use Rattle.script.specs.declared.Parsed.TheVariants.{Event, Malformed}
 
 -- Words: an empty line, a later vsm line, another word, a word with another byte, a space. Numbers of fields: a word alone, a field too
 -- few, a field too many, a doubled tab, a trailing tab. Numbers: a carriage return, no digit, an empty field, a sign, a leading zero, 2^64.
@@ -23,13 +23,13 @@ wrong_counts = "ack" ∷ "ack\t0" ∷ "ack\t0\tx\t0" ∷ "ack\t\t0\t0" ∷ "ack\
 unfoldable pub no_numbers : List String
 no_numbers = "ack\t0\t0\r" ∷ "ack\t0\tx" ∷ "ack\t0\t" ∷ "ack\t0\t+1" ∷ "ack\t0\t00" ∷ "ack\t0\t18446744073709551616" ∷ []
 
-pub malformed-lines : (map (λ line. line_event (bytes line)) unknown_words ≡ map (λ line. Malformed UnknownWord) unknown_words)
-    × (map (λ line. line_event (bytes line)) wrong_counts ≡ map (λ line. Malformed WrongFieldCount) wrong_counts)
-    × (map (λ line. line_event (bytes line)) no_numbers ≡ map (λ line. Malformed NotANumber) no_numbers)
+pub malformed-lines : (map (λ line. line_event (bytes line)) unknown_words ≡ map (λ line. Err UnknownWord) unknown_words)
+    × (map (λ line. line_event (bytes line)) wrong_counts ≡ map (λ line. Err WrongFieldCount) wrong_counts)
+    × (map (λ line. line_event (bytes line)) no_numbers ≡ map (λ line. Err NotANumber) no_numbers)
 unfolding unknown_words wrong_counts no_numbers line_event said fields numbers_in read_decimal among same
 malformed-lines = (refl, refl, refl)
 
 -- Numbers out of range are the event's matter.
-pub int-line : line_event (bytes "int\t18446744073709551615\t16\t0") ≡ Event (Int (processor 18446744073709551615) (level 16) 0)
+pub int-line : line_event (bytes "int\t18446744073709551615\t16\t0") ≡ Ok (Int (processor 18446744073709551615) (level 16) 0)
 unfolding line_event said fields numbers_in read_decimal among same
 int-line = refl

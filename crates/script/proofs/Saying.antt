@@ -1,9 +1,9 @@
 -- Laws of what a line says, by the row that its numbers were read into.
 -- Assumes nothing.
+use Rattle.std.specs.Prelude.{None, Option, Some}
 use Prim.Native.Nat.{ℕ, zero, suc, ◌+◌, ◌≤◌}
 use mathlib.Core.Bool.{Bool, true, false, cond}
 use mathlib.Core.List.{List, [], ◌∷◌, ◌++◌}
-use mathlib.Core.Option.{Option, none, some}
 use mathlib.Core.Path.{◌≡◌, refl, sym, ap, ◌∙◌}
 use borrow.Author.Tests.{eqb-true}
 use native.Mathlib.Omega.{arith}
@@ -56,8 +56,8 @@ module _ {A R : Type 0} (good : A → R) (bad : Refusal → R) (form : Form A) (
       where
         go : (numbers : Option (List ℕ)) → numbers_in more ≡ numbers → is_row form.count numbers ≡ true → values ≡ stored numbers
             → good (made form.count form.value 0 values) ≡ cond (eqb (length more) form.count) (of_numbers good bad form numbers) (bad WrongFieldCount)
-        go none f t v = differ t
-        go (some numbers) f t v =
+        go None f t v = differ t
+        go (Some numbers) f t v =
             rw (← (numbers-length more numbers f), t)
             (ap good (made-same form.count form.value 0 values numbers
             (λ i. ap (λ (l : List ℕ). get_or l i 0) v ∙ stored-number numbers i (omega (arith, eqb-true (length numbers) form.count t)))))
@@ -67,9 +67,9 @@ module _ {A R : Type 0} (good : A → R) (bad : Refusal → R) (form : Form A) (
       where
         go : (numbers : Option (List ℕ)) → numbers_in more ≡ numbers → is_row form.count numbers ≡ false
             → bad (refusal_in form.count more) ≡ cond (eqb (length more) form.count) (of_numbers good bad form numbers) (bad WrongFieldCount)
-        go none f t = by_count (eqb (length more) form.count)
+        go None f t = by_count (eqb (length more) form.count)
           where
             by_count : (t : Bool) → bad (cond t NotANumber WrongFieldCount) ≡ cond t (bad NotANumber) (bad WrongFieldCount)
             by_count true = refl
             by_count false = refl
-        go (some numbers) f t = rw (← (numbers-length more numbers f), t)
+        go (Some numbers) f t = rw (← (numbers-length more numbers f), t)

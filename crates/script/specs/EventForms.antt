@@ -1,6 +1,6 @@
 -- The lines of the twenty-one events (01, "Events"; 02, request 6): each event's word and its fields, in the order of the page.
 -- An event carries its numbers as given: the event's rule refuses those out of range. Assumes nothing.
-use Rattle.std.specs.Prelude.{List, [], ◌∷◌, map, ℕ, zero, suc}
+use Rattle.std.specs.Prelude.{List, [], ◌∷◌, map, ℕ, zero, suc, Err, Ok, Result}
 use Rattle.model.specs.State.{level}
 pub use Rattle.model.specs.declared.event.Action.{Action}
 pub use Rattle.model.specs.declared.event.Event.{Event}
@@ -10,8 +10,7 @@ use Rattle.model.specs.declared.quantity.Page.{Page}
 use Rattle.model.specs.declared.quantity.Processor.{Processor}
 use Rattle.script.specs.Bytes.{bytes}
 use Rattle.script.specs.LineForms.{Form, From, said}
-use Rattle.script.specs.declared.Parsed.{Parsed}
-use Rattle.script.specs.declared.Parsed.TheVariants as parsed
+use Rattle.model.specs.declared.answer.Refusal.{Refusal}
 
 -- A number as a processor index; as a page number.
 abbrev pub processor : ℕ → Processor
@@ -121,5 +120,5 @@ abbrev pub events : List (Form Event)
 events = int ∷ map by_level actions
 
 -- What a later line says: an event, or it is malformed, with the refusal. The word of a later vsm line is unknown.
-unfoldable pub line_event : List ℕ → Parsed
-line_event line = said parsed.Event parsed.Malformed events line
+unfoldable pub line_event : List ℕ → Result Event Refusal
+line_event line = said Ok Err events line

@@ -1,11 +1,10 @@
 -- The event words as the code finds them: the form of each, and the word that a line begins with.
 -- Assumes nothing.
-use Rattle.std.specs.Prelude.{cond, List, [], ◌∷◌, map, ℕ, length}
+use Rattle.std.specs.Prelude.{cond, List, [], ◌∷◌, map, None, Option, ℕ, Some, length}
 use Rattle.script.specs.Bytes.{begun}
 use Rattle.script.specs.EventForms.{Action, Event, by_level, enpart, envp, call, ret, read, write, fetch, protect, config, secure, flush, rreg, wreg, tpr, ack, int, pstat, vstat, caps, cri, crm}
 use Rattle.script.specs.LineForms.{Form, made}
 use Rattle.script.specs.declared.words.Named.{Named}
-use Rattle.script.specs.declared.words.Named.TheVariants.{As, Nothing}
 use Rattle.script.specs.declared.words.Word.{Word}
 use Rattle.script.specs.declared.words.Word.TheVariants.{Interrupt, Made}
 use Rattle.script.specs.declared.words.ActionWord.{ActionWord}
@@ -51,12 +50,15 @@ abbrev pub words_with_c : List Word
 words_with_c = map Made (Call ∷ Config ∷ Caps ∷ Cri ∷ Crm ∷ [])
 
 -- A word, where it ends, and how many numbers its event takes.
-abbrev pub naming : Word → Named
-naming word = As word (length (form_of word).word) (form_of word).count
+abbrev pub named : Word → ℕ → ℕ → Option Named
+named word end takes = Some (record { word = word; end = end; takes = takes })
+
+abbrev pub naming : Word → Option Named
+naming word = named word (length (form_of word).word) (form_of word).count
 
 -- The word, of some, that a line begins with.
-abbrev pub named_among : List Word → List ℕ → Named
-named_among [] line = Nothing
+abbrev pub named_among : List Word → List ℕ → Option Named
+named_among [] line = None
 named_among (word ∷ more) line = cond (begun line (form_of word).word) (naming word) (named_among more line)
 
 -- What a level does by a word, from the third number on, and the event of a word.

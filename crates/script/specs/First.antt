@@ -1,12 +1,11 @@
 -- The first line of a script (01, "Script and listing", with 02, request 1). `admissible`, of the model, refuses numbers out of range.
 -- Assumes nothing.
-use Rattle.std.specs.Prelude.{Bool, true, false, List, [], ◌∷◌, ℕ, eqb, length}
+use Rattle.std.specs.Prelude.{Bool, true, false, List, [], ◌∷◌, ℕ, eqb, length, Err, Ok, Result}
 pub use Rattle.model.specs.declared.machine.FirstLine.{FirstLine}
 use Rattle.model.specs.State.{level}
 use Rattle.script.specs.Bytes.{bytes}
 use Rattle.script.specs.LineForms.{Form, fields, said}
-use Rattle.script.specs.declared.Start.{Start}
-use Rattle.script.specs.declared.Start.TheVariants as start
+use Rattle.model.specs.declared.answer.Refusal.{Refusal}
 
 -- The first line is vsm, V, M, P, Dr6Shared, host mask, and whether SMEP is available.
 abbrev pub first_line : ℕ → ℕ → ℕ → ℕ → ℕ → ℕ → FirstLine
@@ -31,5 +30,5 @@ abbrev pub first_form : Bool → Form FirstLine
 first_form true = vsm
 first_form false = vsm_short
 
-unfoldable pub line_first : List ℕ → Start
-line_first line = said start.First start.Malformed (first_form (eqb (length (fields line)) 7) ∷ []) line
+unfoldable pub line_first : List ℕ → Result FirstLine Refusal
+line_first line = said Ok Err (first_form (eqb (length (fields line)) 7) ∷ []) line

@@ -1,10 +1,7 @@
 -- A line of a script (01, "Script and listing"): its fields, the numbers that they say, and what a line of a known form says.
 -- A line is a list of bytes without its line feed. Assumes nothing.
-use Rattle.std.specs.Prelude.{cond, List, [], ◌∷◌, ℕ, zero, suc, eqb, ltb, get_or, length}
-use Rattle.std.proofs.Math.Option.{Option, none, some}
+use Rattle.std.specs.Prelude.{cond, List, [], ◌∷◌, ℕ, zero, suc, eqb, ltb, get_or, length, None, Option, Some}
 use Rattle.decimal.specs.Read.{read_decimal}
-use Rattle.decimal.specs.declared.Number.{Number}
-use Rattle.decimal.specs.declared.Number.TheVariants.{Value, Malformed}
 pub use Rattle.model.specs.declared.answer.Refusal.{Refusal}
 pub use Rattle.model.specs.declared.answer.Refusal.TheVariants.{LineTooLong, UnknownWord, WrongFieldCount, NotANumber}
 use Rattle.script.specs.Bytes.{same}
@@ -24,14 +21,14 @@ fields [] = [] ∷ []
 fields (byte ∷ line) = cond (eqb byte tab) ([] ∷ fields line) (in_front byte (fields line))
 
 -- A number in front of other numbers, where each of them is one.
-abbrev pub followed_by : Number → Option (List ℕ) → Option (List ℕ)
-followed_by Malformed more = none
-followed_by (Value n) none = none
-followed_by (Value n) (some numbers) = some (n ∷ numbers)
+abbrev pub followed_by : Option ℕ → Option (List ℕ) → Option (List ℕ)
+followed_by None more = None
+followed_by (Some n) None = None
+followed_by (Some n) (Some numbers) = Some (n ∷ numbers)
 
 -- Numbers are decimal: the numbers that fields say, or none where a field says no number.
 unfoldable pub numbers_in : List (List ℕ) → Option (List ℕ)
-numbers_in [] = some []
+numbers_in [] = Some []
 numbers_in (field ∷ more) = followed_by (read_decimal field) (numbers_in more)
 
 -- What takes n numbers.
@@ -59,8 +56,8 @@ longest_line = 256
 module _ {A R : Type 0} (good : A → R) (bad : Refusal → R) where
   -- What as many numbers as a form takes say.
   abbrev pub of_numbers : Form A → Option (List ℕ) → R
-  of_numbers form none = bad NotANumber
-  of_numbers form (some numbers) = good (made form.count form.value 0 numbers)
+  of_numbers form None = bad NotANumber
+  of_numbers form (Some numbers) = good (made form.count form.value 0 numbers)
 
   -- What the fields after the word say, in a form.
   abbrev pub in_form : Form A → List (List ℕ) → R

@@ -1,7 +1,6 @@
 -- How the code finds the fields of a line, and how it holds their numbers.
 -- Assumes nothing.
-use Rattle.std.specs.Prelude.{Bool, true, false, cond, List, [], ◌∷◌, ◌≡◌, ℕ, ◌≤◌, eqb, drop, get_or, length, replicate}
-use Rattle.std.proofs.Math.Option.{Option, none, some}
+use Rattle.std.specs.Prelude.{Bool, true, false, cond, List, [], ◌∷◌, ◌≡◌, ℕ, ◌≤◌, eqb, drop, get_or, length, replicate, None, Option, Some}
 use Rattle.std.proofs.lemmas.List.Edits.{sets}
 use Rattle.script.specs.LineForms.{Refusal, NotANumber, WrongFieldCount, fields, numbers_in, tab}
 use Rattle.script.specs.Search.{byte_at, until_byte}
@@ -28,13 +27,13 @@ refusal_in takes more = cond (eqb (length more) takes) NotANumber WrongFieldCoun
 
 -- Whether there are as many numbers as are taken.
 abbrev pub is_row : ℕ → Option (List ℕ) → Bool
-is_row takes none = false
-is_row takes (some numbers) = eqb (length numbers) takes
+is_row takes None = false
+is_row takes (Some numbers) = eqb (length numbers) takes
 
 -- Numbers that are stored in front of zeros.
 abbrev pub stored : Option (List ℕ) → List ℕ
-stored none = replicate 7 0
-stored (some numbers) = sets (replicate 7 0) 0 numbers
+stored None = replicate 7 0
+stored (Some numbers) = sets (replicate 7 0) 0 numbers
 
 -- What is known once fields were read: whether they are just as many numbers as are taken, and then where these stand.
 pub record Row (takes : ℕ) (more : List (List ℕ)) (ok : Bool) (values : List ℕ) : Type 0 where

@@ -3,7 +3,6 @@ ghost use Rattle.std.specs.Prelude.{◌≡◌, ◌<◌, ◌≤◌, length, repli
 ghost use Rattle.script.specs.NumberRows.{NumberEnd, Row, fields_after, refusal_in};
 
 use crate::search::find_byte;
-use decimal::Number;
 use model::answer::Refusal;
 
 // Where the field that starts at `start` ends. Most numbers have one digit, so the byte after it is looked at first.
@@ -65,7 +64,7 @@ pub(crate) fn numbers(line: &[u8], from: usize, takes: usize, values: &mut [u64;
             return false;
         }
         let end = number_end(line, start);
-        let Number::Value(value) = decimal::read(&line[start..end]) else {
+        let Some(value) = decimal::read(&line[start..end]) else {
             return false;
         };
         values[count] = value;

@@ -7,7 +7,6 @@ ghost use Rattle.script.specs.EventForms.{line_event};
 ghost use Rattle.script.specs.First.{first_form, line_first};
 ghost use Rattle.script.specs.NumberRows.{fields_after};
 
-use crate::words::Named;
 use model::answer::Refusal;
 use model::event::Event;
 use model::machine::FirstLine;
@@ -18,38 +17,24 @@ mod line_events; // the event of each word
 pub mod search; // the search for a byte
 mod words; // the event words
 
-// What a later line says, or why it says nothing.
-#[derive(Clone, Copy)]
-pub enum Parsed {
-    Event(Event),
-    Malformed(Refusal),
-}
-
-// What the first line says, or why it says nothing.
-#[derive(Clone, Copy)]
-pub enum Start {
-    First(FirstLine),
-    Malformed(Refusal),
-}
-
 // The greatest length of a line without its line feed.
 pub const LONGEST_LINE: usize = 256;
 
-// What a line after the first says.
-pub fn parse(line: &[u8]) -> Parsed
+// What a line after the first says, or why it says nothing.
+pub fn parse(line: &[u8]) -> Result<Event, Refusal>
     ensures { result ≡ line_event line.now }
 {
     if LONGEST_LINE < line.len() {
-        return Parsed::Malformed(Refusal::LineTooLong);
+        return Err(Refusal::LineTooLong);
     }
-    let Named::As { word, end, takes } = words::word_of(line) else {
-        return Parsed::Malformed(Refusal::UnknownWord);
+    let Some(named) = words::word_of(line) else {
+        return Err(Refusal::UnknownWord);
     };
     let mut values = [0u64; 7];
-    if !fields::numbers(line, end, takes, &mut values) {
-        return Parsed::Malformed(fields::refusal(line, end, takes));
+    if !fields::numbers(line, named.end, named.takes, &mut values) {
+        return Err(fields::refusal(line, named.end, named.takes));
     }
-    Parsed::Event(line_events::event(word, &values))
+    Ok(line_events::event(named.word, &values))
 }
 
 // How many numbers follow the word `vsm`: six where the line has a seventh field, else five.
@@ -62,22 +47,22 @@ fn first_takes(line: &[u8]) -> usize
     5
 }
 
-// What the first line says. Without a seventh field SMEP is not available.
-pub fn parse_first(line: &[u8]) -> Start
+// What the first line says, or why it says nothing. Without a seventh field SMEP is not available.
+pub fn parse_first(line: &[u8]) -> Result<FirstLine, Refusal>
     ensures { result ≡ line_first line.now }
 {
     if LONGEST_LINE < line.len() {
-        return Start::Malformed(Refusal::LineTooLong);
+        return Err(Refusal::LineTooLong);
     }
     if !words::begins(line, b"vsm") {
-        return Start::Malformed(Refusal::UnknownWord);
+        return Err(Refusal::UnknownWord);
     }
     let takes = first_takes(line);
     let mut values = [0u64; 7];
     if !fields::numbers(line, 3, takes, &mut values) {
-        return Start::Malformed(fields::refusal(line, 3, takes));
+        return Err(fields::refusal(line, 3, takes));
     }
-    Start::First(FirstLine {
+    Ok(FirstLine {
         processors: values[0],
         max_level: Level(values[1]),
         pages: values[2],

@@ -1,8 +1,7 @@
 // The event words, compared byte for byte with the beginning of a line. The first byte says which few come into question.
 ghost use Rattle.std.specs.Prelude.{cond, ◌≡◌, length};
 ghost use Rattle.script.specs.Bytes.{begun};
-ghost use Rattle.script.specs.EventWords.{named_among, words, words_with_c};
-ghost use Rattle.script.specs.declared.words.Named.TheVariants.{As};
+ghost use Rattle.script.specs.EventWords.{named, named_among, words, words_with_c};
 
 // The words of the events that a level makes.
 #[derive(Clone, Copy)]
@@ -38,13 +37,10 @@ pub enum Word {
 
 // The event word that a line begins with, where it ends, and how many numbers its event takes.
 #[derive(Clone, Copy)]
-pub enum Named {
-    As {
-        word: Word,
-        end: usize,
-        takes: usize,
-    },
-    Nothing,
+pub struct Named {
+    pub word: Word,
+    pub end: usize,
+    pub takes: usize,
 }
 
 // Whether a line's first field is the word with this name.
@@ -69,25 +65,25 @@ pub fn begins(line: &[u8], name: &[u8]) -> bool
 }
 
 // This word, where the line begins with its name, or what was found otherwise.
-fn pick(line: &[u8], name: &[u8], word: Word, takes: usize, otherwise: Named) -> Named
+fn pick(line: &[u8], name: &[u8], word: Word, takes: usize, otherwise: Option<Named>) -> Option<Named>
     ensures { result ≡ cond (begun line.now name.now)
-        (As word (length name.now) takes) otherwise }
+        (named word (length name.now) takes) otherwise }
 {
     if begins(line, name) {
-        return Named::As {
+        return Some(Named {
             word,
             end: name.len(),
             takes,
-        };
+        });
     }
     otherwise
 }
 
 // The same among the words that begin with c. The second byte says whether it can be one of request 6.
-fn word_with_c(line: &[u8]) -> Named
+fn word_with_c(line: &[u8]) -> Option<Named>
     ensures { result ≡ named_among words_with_c line.now }
 {
-    let none = Named::Nothing;
+    let none = None;
     if line.len() < 2 {
         return none;
     }
@@ -101,13 +97,13 @@ fn word_with_c(line: &[u8]) -> Named
 }
 
 // The event word that a line begins with.
-pub fn word_of(line: &[u8]) -> Named
+pub fn word_of(line: &[u8]) -> Option<Named>
     ensures { result ≡ named_among words line.now }
 {
     if line.len() == 0 {
-        return Named::Nothing;
+        return None;
     }
-    let none = Named::Nothing;
+    let none = None;
     match line[0] {
         b'a' => pick(line, b"ack", Word::Made(ActionWord::Ack), 2, none),
         b'c' => word_with_c(line),
@@ -136,6 +132,6 @@ pub fn word_of(line: &[u8]) -> Named
             let wreg = pick(line, b"wreg", Word::Made(ActionWord::Wreg), 5, none);
             pick(line, b"write", Word::Made(ActionWord::Write), 4, wreg)
         }
-        _ => Named::Nothing,
+        _ => None,
     }
 }

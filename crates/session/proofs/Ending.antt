@@ -1,7 +1,7 @@
 -- Laws of the end of a line: what the code has of it, against the definitions. Assumes nothing.
+use Rattle.std.specs.Prelude.{Err, None, Ok, Option, Result, Some}
 use Rattle.std.proofs.Common.{◌≡◌, ℕ, ◌+◌, ◌-◌, ◌%◌, ◌≤◌, min, Bool, true, false, cond, ◌&&◌, eqb, ltb, List, [], ◌∷◌, ◌++◌, length, get_or, take, drop, replicate, sym, refl, ap, ◌∙◌, arith, length-take, length-take-le, take_all, take_at, ltb-false, ltb-true, lt-ltb, eqb-true}
 use mathlib.Core.Bool.{false≢true}
-use mathlib.Core.Option.{Option, none, some}
 use lib.ListN.{length-replicate, replicate-append-replicate}
 use Rattle.model.proofs.FreshFormed.{few-pages}
 use Rattle.model.proofs.Keeps.{step_keeps}
@@ -21,10 +21,6 @@ use Rattle.model.specs.declared.quantity.Processor.{Processor}
 use Rattle.script.specs.EventForms.{events, line_event}
 use Rattle.script.specs.First.{first_form, line_first}
 use Rattle.script.specs.LineForms.{Form, fields, said, said_in}
-use Rattle.script.specs.declared.Parsed.{Parsed}
-use Rattle.script.specs.declared.Parsed.TheVariants as parsed
-use Rattle.script.specs.declared.Start.{Start}
-use Rattle.script.specs.declared.Start.TheVariants as start
 use Rattle.step.proofs.KnownFormed.{step-as-if}
 use Rattle.step.specs.Stepped.{step_if}
 use Rattle.session.specs.declared.Phase.{Phase}
@@ -72,15 +68,15 @@ unfolding step next_for
 refused-next s e w = rw w
 
 -- The end of a first line that is malformed, and of one that is not admissible or is.
-pub first-malformed : (line : List ℕ) (refusal : Refusal) → line_first line ≡ start.Malformed refusal → ended (first line) ≡ begun none
+pub first-malformed : (line : List ℕ) (refusal : Refusal) → line_first line ≡ Err refusal → ended (first line) ≡ begun None
 unfolding ended
 first-malformed line refusal e = rw e
 
-pub first-refused : (line : List ℕ) (f : FirstLine) → line_first line ≡ start.First f → admissible f ≡ false → ended (first line) ≡ begun none
+pub first-refused : (line : List ℕ) (f : FirstLine) → line_first line ≡ Ok f → admissible f ≡ false → ended (first line) ≡ begun None
 unfolding ended
 first-refused line f e h = rw (e, h)
 
-pub first_done : (line : List ℕ) (f : FirstLine) → line_first line ≡ start.First f → admissible f ≡ true → ended (first line) ≡ begun (some (fresh f))
+pub first_done : (line : List ℕ) (f : FirstLine) → line_first line ≡ Ok f → admissible f ≡ true → ended (first line) ≡ begun (Some (fresh f))
 unfolding ended
 first_done line f e h = rw (e, h)
 
@@ -91,7 +87,7 @@ unfolding ended
 ended_by number s next line text n t = (rw n, t)
 
 -- A line that is malformed: nothing changes.
-pub told-malformed : (s : State) (line : List ℕ) (refusal : Refusal) → line_event line ≡ parsed.Malformed refusal
+pub told-malformed : (s : State) (line : List ℕ) (refusal : Refusal) → line_event line ≡ Err refusal
     → (s ≡ (answered s (line_event line)).next) × (shown_of (Refused refusal) (level 0) ≡ shown_by (answered s (line_event line)))
 told-malformed s line refusal e =
     rw e (refl, ap (λ (l : Level). record { answer = refusal_number refusal; value = 0; level = l }) (level-column (refusal_number refusal) 0 ∙ go (eqb (refusal_number refusal) 1)))
@@ -107,7 +103,7 @@ module _ (s next : State) (e : Event) (formed : Bool) (well : formed ≡ well_fo
     stepped : record { answer = a; next = next } ≡ step s e
     stepped = done ∙ step-as-if formed s e well
 
-    pub told-next : next ≡ (answered s (parsed.Event e)).next
+    pub told-next : next ≡ (answered s (Ok e)).next
     told-next = ap (λ (o : Outcome). o.next) stepped
 
     pub told-formed : formed ≡ well_formed next
@@ -119,7 +115,7 @@ module _ (s next : State) (e : Event) (formed : Bool) (well : formed ≡ well_fo
 
     pub told-shown : (v : Processor) → v ≡ processor_of e
         → (on : Level) → on ≡ level_on v next.machine.processors (get_or next.machine.vps (v.0 % 4) past_vp).active
-        → shown_of a on ≡ shown_by (answered s (parsed.Event e))
+        → shown_of a on ≡ shown_by (answered s (Ok e))
     told-shown v here on there = event-shown s next e a stepped v here on there
 
 -- At the end of a script: a later line that has no bytes, and any other line.
@@ -166,8 +162,8 @@ bytes_of stopped = []
 
 begun-bytes : (o : Option State) → bytes_of (begun o).progress ≡ []
 unfolding bytes_of
-begun-bytes none = refl
-begun-bytes (some s) = refl
+begun-bytes None = refl
+begun-bytes (Some s) = refl
 
 ended-bytes : (p : Progress) → bytes_of (ended p).progress ≡ []
 unfolding bytes_of ended
@@ -195,6 +191,6 @@ module _ {A R : Type 0} (good : A → R) (bad : Refusal → R) (forms : List ℕ
 
 pub ended-kept : (p : Progress) → ended (kept p) ≡ ended p
 unfolding ended line_event line_first
-ended-kept (first line) = ap (λ (x : Start). begun (state_by x)) (said-kept start.First start.Malformed (λ l. first_form (eqb (length (fields l)) 7) ∷ []) line)
-ended-kept (later number s line) = ap (λ (x : Parsed). continued number (answered s x)) (said-kept parsed.Event parsed.Malformed (λ l. events) line)
+ended-kept (first line) = ap (λ (x : Result FirstLine Refusal). begun (state_by x)) (said-kept Ok Err (λ l. first_form (eqb (length (fields l)) 7) ∷ []) line)
+ended-kept (later number s line) = ap (λ (x : Result Event Refusal). continued number (answered s x)) (said-kept Ok Err (λ l. events) line)
 ended-kept stopped = refl

@@ -1,7 +1,7 @@
 -- Laws of feeding a chunk from a place on: one line more, the end of the chunk, and a buffer with too little room. `Feeds` is
 -- what the loop over a chunk's lines keeps. Assumes nothing.
+use Rattle.std.specs.Prelude.{None, Option, Some}
 use Rattle.std.proofs.Common.{◌≡◌, ℕ, suc, ◌+◌, ◌-◌, ◌<◌, ◌≤◌, Bool, true, false, cond, ltb, List, [], ◌∷◌, ◌++◌, length, take, drop, sym, refl, ap, ◌∙◌, append_assoc, add-zero, zero-add, arith, length-append, length-drop, length-take-le, ltb-false, le-ltb, lt-ltb}
-use mathlib.Core.Option.{Option, none, some}
 use native.Mathlib.Nat.{sub-zero}
 use lib.Seq.{length-sets, sets}
 use Rattle.model.specs.State.{State}
@@ -19,8 +19,8 @@ use Rattle.chunk.proofs.ChunkLines.{end-within, joined, lines_from, lines-last, 
 
 -- A record has at most 84 bytes.
 begun-at-most : (o : Option State) → length (begun o).text ≤ 84
-begun-at-most none = line-at-most 0 1 0 0
-begun-at-most (some s) = line-at-most 0 0 0 0
+begun-at-most None = line-at-most 0 1 0 0
+begun-at-most (Some s) = line-at-most 0 0 0 0
 
 pub ended-at-most : (p : Progress) → length (ended p).text ≤ 84
 unfolding ended

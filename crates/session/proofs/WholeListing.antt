@@ -1,7 +1,7 @@
 -- However a script is cut into chunks, and whatever room the buffers have, what is written is the listing of the whole.
 -- Assumes nothing.
+use Rattle.std.specs.Prelude.{None, Option, Some}
 use Rattle.std.proofs.Common.{◌≡◌, ℕ, zero, suc, ◌+◌, ◌-◌, ◌≤◌, Bool, true, false, cond, eqb, ltb, List, [], ◌∷◌, ◌++◌, length, take, sym, refl, ap, ◌∙◌, append_assoc, append-nil, arith, le-ltb, ne_eqb}
-use mathlib.Core.Option.{Option, none, some}
 use lib.Seq.{take-append-add, take-length}
 use Rattle.model.specs.State.{State}
 use Rattle.script.specs.Bytes.{same}
@@ -181,13 +181,13 @@ first-finished [] [] = refl
 first-finished [] (byte ∷ rest) = ap (λ (e : Ended). e.text) (ended-kept (first (byte ∷ rest))) ∙ go (state_by (line_first (byte ∷ rest)))
   where
     go : (o : Option State) → (begun o).text ≡ listing_from o []
-    go none = refl
-    go (some s) = sym (append-nil first_done)
+    go None = refl
+    go (Some s) = sym (append-nil first_done)
 first-finished (line ∷ ls) rest = go (state_by (line_first line))
   where
     go : (o : Option State) → finished (after (begun o).text (consumed_lines (begun o).progress ls rest)) ≡ listing_from o (ls ++ last_line rest)
-    go none = finished-after (begun none).text (consumed_lines stopped ls rest) ∙ ap (λ (l : List ℕ). (begun none).text ++ l) (stopped-finished ls rest) ∙ append-nil (begun none).text
-    go (some s) = finished-after first_done (consumed_lines (later 1 s []) ls rest) ∙ ap (λ (l : List ℕ). first_done ++ l) (later-finished ls rest 1 s)
+    go None = finished-after (begun None).text (consumed_lines stopped ls rest) ∙ ap (λ (l : List ℕ). (begun None).text ++ l) (stopped-finished ls rest) ∙ append-nil (begun None).text
+    go (Some s) = finished-after first_done (consumed_lines (later 1 s []) ls rest) ∙ ap (λ (l : List ℕ). first_done ++ l) (later-finished ls rest 1 s)
 
 pub listing-consumed : Consumed
 unfolding consumed listing lines

@@ -1,7 +1,6 @@
 -- What a session does with a chunk of a script, and at the script's end. It goes by the chunk's lines: those that a line feed
 -- ends are answered, and what is left of the chunk is kept as the beginning of the next line. Assumes nothing.
-use Rattle.std.specs.Prelude.{◌≡◌, ℕ, suc, ◌+◌, ◌-◌, ◌≤◌, min, Bool, true, false, cond, List, [], ◌∷◌, ◌++◌, length, take, ◌==◌, nat_lt}
-use Rattle.std.proofs.Math.Option.{Option, none, some}
+use Rattle.std.specs.Prelude.{◌≡◌, ℕ, suc, ◌+◌, ◌-◌, ◌≤◌, min, Bool, true, false, cond, List, [], ◌∷◌, ◌++◌, length, take, ◌==◌, nat_lt, None, Option, Some}
 use Rattle.model.specs.State.{State}
 use Rattle.chunk.specs.Chunk.{held, kept_bytes}
 use Rattle.script.specs.EventForms.{line_event}
@@ -66,8 +65,8 @@ pub record Ended : Type 0 where
 
 -- The first line gives the state that it describes, or is refused; then the session stops.
 abbrev pub begun : Option State → Ended
-begun none = record { progress = stopped; text = first_refused }
-begun (some s) = record { progress = later 1 s []; text = first_done }
+begun None = record { progress = stopped; text = first_refused }
+begun (Some s) = record { progress = later 1 s []; text = first_done }
 
 -- A later line gives its answer's record and the next state.
 abbrev pub continued : ℕ → Answered → Ended

@@ -1,18 +1,19 @@
 -- What the parts of the code give: a session made anew, one that goes on, a line that has ended, and a chunk from a place on.
 -- Assumes nothing.
-use Rattle.std.specs.Prelude.{◌≡◌, ℕ, ◌+◌, Bool, true, false, List, [], length}
+use Rattle.std.specs.Prelude.{◌≡◌, ℕ, ◌+◌, Bool, true, false, List, [], length, Result}
 use Rattle.std.proofs.lemmas.List.Edits.{sets}
 use Rattle.model.specs.State.{State}
 use Rattle.model.specs.WellFormed.{well_formed}
 use Rattle.listing.specs.Answer.{shown_by}
 use Rattle.listing.specs.Listing.{answered}
 use Rattle.listing.specs.declared.Shown.{Shown}
-use Rattle.script.specs.declared.Parsed.{Parsed}
 use Rattle.session.specs.declared.Fed.{Fed}
 use Rattle.session.specs.declared.Phase.{Phase}
 use Rattle.session.specs.declared.Phase.TheVariants as phase
 use Rattle.session.specs.declared.Written.{Written}
 use Rattle.session.specs.Session.{Ended, Feeding, Progress, first, later, progress_of, stopped}
+use Rattle.model.specs.declared.answer.Refusal.{Refusal}
+use Rattle.model.specs.declared.event.Event.{Event}
 
 -- The phases of a session.
 abbrev pub has_stopped : Phase → Bool
@@ -32,7 +33,7 @@ blank_in phase.Later s = later 0 s []
 blank_in phase.Stopped s = stopped
 
 -- A line was answered: the next state, which is as well formed as the one before, and what is shown.
-pub record AnsweredBy (formed : Bool) (parsed : Parsed) (r : Shown) (before after : State) : Type 0 where
+pub record AnsweredBy (formed : Bool) (parsed : Result Event Refusal) (r : Shown) (before after : State) : Type 0 where
   pub next : after ≡ (answered before parsed).next
   pub kept : formed ≡ well_formed after
   pub shown : r ≡ shown_by (answered before parsed)

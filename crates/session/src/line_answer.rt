@@ -1,8 +1,7 @@
 // A line after the first (01, "Script and listing"): what it says, and the event on the machine, whose parts are lent.
-ghost use Rattle.std.specs.Prelude.{◌≡◌};
+ghost use Rattle.std.specs.Prelude.{◌≡◌, Err, Ok};
 ghost use Rattle.model.specs.WellFormed.{well_formed};
 ghost use Rattle.script.specs.EventForms.{line_event};
-ghost use Rattle.script.specs.declared.Parsed.TheVariants as said;
 ghost use Rattle.session.specs.SessionParts.{AnsweredBy};
 ghost use Rattle.state.specs.Lent.{lent};
 
@@ -27,7 +26,7 @@ fn answer_event(
     event: Event,
 ) -> Shown
     requires { formed ≡ well_formed (lent setup levels.old masks.old vps.old words.old) }
-    ensures { AnsweredBy formed (said.Event event) result
+    ensures { AnsweredBy formed (Ok event) result
         (lent setup levels.old masks.old vps.old words.old)
         (lent setup levels.new masks.new vps.new words.new) }
 {

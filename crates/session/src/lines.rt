@@ -1,6 +1,5 @@
 // Lines that end: the first, later ones, and those that lie whole in a chunk. What is written is the record of the line.
-ghost use Rattle.std.specs.Prelude.{◌≡◌, ◌-◌, ◌≤◌, true, [], ◌∷◌, length, drop, replicate};
-ghost use Rattle.std.proofs.Math.Option.{none, some};
+ghost use Rattle.std.specs.Prelude.{◌≡◌, ◌-◌, ◌≤◌, true, [], ◌∷◌, length, drop, replicate, None, Some};
 ghost use Rattle.model.specs.Fresh.{admissible, fresh};
 ghost use Rattle.state.specs.Lent.{lent};
 ghost use Rattle.session.specs.SessionParts.{EndedBy, FedFrom, blank_in, has_stopped, is_later};
@@ -144,7 +143,7 @@ fn write_first(out: &mut [u8], answer: u64) -> usize
 // Refuses the first line: the session stops.
 fn refuse_first(out: &mut [u8]) -> Written
     requires { longest_record ≤ length out.old }
-    ensures { EndedBy (begun none) result out.old out.new }
+    ensures { EndedBy (begun None) result out.old out.new }
 {
     let session = blank(Phase::Stopped);
     let wrote = write_first(out, 1);
@@ -155,7 +154,7 @@ fn refuse_first(out: &mut [u8]) -> Written
 fn begin(first: FirstLine, out: &mut [u8]) -> Written
     requires longest_record_in_bounds { longest_record ≤ length out.old }
     requires first_value { admissible first ≡ true }
-    ensures { EndedBy (begun (some (fresh first))) result out.old out.new }
+    ensures { EndedBy (begun (Some (fresh first))) result out.old out.new }
 {
     let session = opened(Phase::Later, 1, first, first.pages as usize);
     let wrote = write_first(out, 0);

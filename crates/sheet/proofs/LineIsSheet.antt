@@ -1,4 +1,5 @@
 -- The theorems that the line of an explanation has the form of a sheet, and is right. Assumes nothing.
+use Rattle.std.specs.Prelude.{None, Some, Option}
 use mathlib.Core.Bool.{Bool, true, false, ◌||◌}
 use mathlib.Core.List.{List, [], ◌∷◌, ◌++◌, append-nil}
 use mathlib.Core.Path.{◌≡◌, refl, ap}
@@ -8,18 +9,18 @@ use native.Mathlib.Omega.{arith}
 use lib.ListN.{length}
 use Rattle.decimal.proofs.DecimalRoundTrip.{round_trip}
 use Rattle.decimal.specs.Write.{decimal}
-use Rattle.explanation.specs.declared.Receiver.TheVariants as receiver
 use Rattle.script.proofs.Same.{differ}
 use Rattle.script.specs.Bytes.{bytes, same}
 use Rattle.script.specs.LineForms.{longest_line}
 use Rattle.sheet.specs.SheetClaims.{DenialFits, Fits, LineIsSheet, ReceiverFits, RightSheet, denies, names}
 use Rattle.sheet.specs.SheetForms.{good_form, is_alone, is_empty, is_groups, is_kind, is_number, is_receiver, is_sheet, is_value}
-use Rattle.sheet.specs.Sheets.{Denial, Absent, By, Explanation, Allowed, Host, Levels, Receiver, group, kind_field, receiver_field, sheet_fields, sheet_line}
+use Rattle.sheet.specs.Sheets.{Denial, Absent, By, Explanation, Allowed, Host, Levels, group, kind_field, receiver_field, sheet_fields, sheet_line}
 use Rattle.sheet.specs.Verdicts.{verdict, verdict_lines}
 use Rattle.sheet.proofs.FieldPassing.{rest_good}
 use Rattle.sheet.proofs.SheetLengths.{line-length}
 use Rattle.sheet.proofs.SheetReading.{fields-of-line}
 use Rattle.sheet.proofs.VerdictLaws.{fields-itself}
+use Rattle.model.specs.declared.quantity.Level.{Level}
 
 -- Each field is what stands in its place.
 number-good : (n : ℕ) → n < 2 ^ 64 → is_number (decimal n) ≡ true
@@ -31,10 +32,10 @@ unfolding is_kind kind_field same
 kind-good true = refl
 kind-good false = refl
 
-receiver-good : (by : Receiver) → ReceiverFits by → is_receiver (receiver_field by) ≡ true
+receiver-good : (by : Option Level) → ReceiverFits by → is_receiver (receiver_field by) ≡ true
 unfolding is_receiver receiver_field same
-receiver-good receiver.Nobody h = refl
-receiver-good (receiver.By level) h = go (same (decimal level.0) (bytes "none"))
+receiver-good None h = refl
+receiver-good (Some level) h = go (same (decimal level.0) (bytes "none"))
   where
     go : (t : Bool) → (t || is_number (decimal level.0)) ≡ true
     go true = refl

@@ -1,4 +1,5 @@
 -- The line of an explanation group by group, and how long it is. Assumes nothing.
+use Rattle.std.specs.Prelude.{None, Some, Option}
 use mathlib.Core.Bool.{Bool, true, false}
 use mathlib.Core.List.{List, [], ◌∷◌, ◌++◌, append_assoc, append-nil}
 use mathlib.Core.Path.{◌≡◌, refl, sym, ap, ◌∙◌}
@@ -7,12 +8,12 @@ use native.Mathlib.Omega.{arith}
 use lib.ListN.{length, length-append}
 use Rattle.decimal.proofs.Digits.{few-digits, text-length}
 use Rattle.decimal.specs.Write.{decimal}
-use Rattle.explanation.specs.declared.Receiver.TheVariants as receiver
 use Rattle.script.specs.LineForms.{tab}
 use Rattle.script.specs.Texts.{parted}
 use Rattle.records.specs.RecordTexts.{ended}
 use Rattle.sheet.specs.SheetClaims.{ShortSheet}
-use Rattle.sheet.specs.Sheets.{Denial, Absent, By, Explanation, Allowed, Host, Levels, Receiver, group, kind_field, receiver_field, sheet_fields, sheet_line, sheet_text}
+use Rattle.sheet.specs.Sheets.{Denial, Absent, By, Explanation, Allowed, Host, Levels, group, kind_field, receiver_field, sheet_fields, sheet_line, sheet_text}
+use Rattle.model.specs.declared.quantity.Level.{Level}
 
 -- Fields after fields.
 parted-both : (left right : List (List ℕ)) → parted (left ++ right) ≡ parted left ++ parted right
@@ -22,7 +23,7 @@ parted-both (field ∷ left) right =
     ap (λ (more : List ℕ). tab ∷ field ++ more) (parted-both left right) ∙ ap (λ (more : List ℕ). tab ∷ more) (sym (append_assoc field (parted left) (parted right)))
 
 -- The line of levels that deny: the receiver, and the fields of each level.
-pub line-of-levels : (by : Receiver) (first second third : Denial)
+pub line-of-levels : (by : Option Level) (first second third : Denial)
     → sheet_line (Levels by first second third)
     ≡ ((receiver_field by ++ parted (group 1 first)) ++ parted (group 2 second)) ++ parted (group 3 third)
 unfolding sheet_line sheet_fields
@@ -37,10 +38,10 @@ unfolding group parted
 group-text level mask wanted mbec = simp (append_assoc, append-nil)
 
 -- A receiver takes at most 20 bytes, and a level of one digit at most 50.
-pub receiver-length : (by : Receiver) → length (receiver_field by) ≤ 20
+pub receiver-length : (by : Option Level) → length (receiver_field by) ≤ 20
 unfolding receiver_field
-receiver-length receiver.Nobody = omega arith
-receiver-length (receiver.By level) = (text-length level.0).1
+receiver-length None = omega arith
+receiver-length (Some level) = (text-length level.0).1
 
 kind-length : (mbec : Bool) → length (kind_field mbec) ≤ 5
 unfolding kind_field
@@ -63,7 +64,7 @@ unfolding group parted
 group-length level Absent h = omega arith
 group-length level (By mask wanted mbec) h = denial-length level mask wanted mbec h
 
-levels-length : (by : Receiver) (first second third : Denial) → length (sheet_line (Levels by first second third)) ≤ 170
+levels-length : (by : Option Level) (first second third : Denial) → length (sheet_line (Levels by first second third)) ≤ 170
 levels-length by first second third =
     omega (
       arith,

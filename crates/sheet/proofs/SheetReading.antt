@@ -1,4 +1,5 @@
 -- The line of an explanation has the explanation's fields, and no other explanation has that line. Assumes nothing.
+use Rattle.std.specs.Prelude.{None, Some, Option}
 use mathlib.Core.Bool.{Bool, true, false, ◌&&◌}
 use mathlib.Core.List.{List, [], ◌∷◌, ◌++◌}
 use mathlib.Core.Path.{◌≡◌, refl, sym, ap, ◌∙◌}
@@ -9,8 +10,6 @@ use Rattle.decimal.proofs.DecimalRoundTrip.{round_trip}
 use Rattle.decimal.proofs.DigitReading.{no_number}
 use Rattle.decimal.specs.Read.{read_decimal}
 use Rattle.decimal.specs.Write.{decimal, digits_before, digits_in}
-use Rattle.decimal.specs.declared.Number.TheVariants.{Value, Malformed}
-use Rattle.explanation.specs.declared.Receiver.TheVariants as receiver
 use Rattle.model.specs.State.{level as level_of}
 use Rattle.script.proofs.Naming.{no_tab}
 use Rattle.script.proofs.Parted.{fields-together, no-tab-number}
@@ -18,7 +17,8 @@ use Rattle.script.proofs.Same.{every}
 use Rattle.script.specs.Bytes.{bytes}
 use Rattle.script.specs.LineForms.{fields}
 use Rattle.sheet.specs.SheetClaims.{DenialFits, Fits, OneReason, ReceiverFits}
-use Rattle.sheet.specs.Sheets.{Denial, Absent, By, Explanation, Allowed, Host, Levels, Receiver, group, kind_field, receiver_field, sheet_fields, sheet_line}
+use Rattle.sheet.specs.Sheets.{Denial, Absent, By, Explanation, Allowed, Host, Levels, group, kind_field, receiver_field, sheet_fields, sheet_line}
+use Rattle.model.specs.declared.quantity.Level.{Level}
 
 -- No field has a tab.
 every-both : {A : Type 0} (test : A → Bool) (left right : List A) → every test left ≡ true → every test right ≡ true → every test (left ++ right) ≡ true
@@ -29,10 +29,10 @@ every-both test (x ∷ left) right h k = go (test x) h (λ more. every-both test
     go true h ih = ih h
     go false h ih = h
 
-plain-receiver : (by : Receiver) → no_tab (receiver_field by) ≡ true
+plain-receiver : (by : Option Level) → no_tab (receiver_field by) ≡ true
 unfolding receiver_field
-plain-receiver receiver.Nobody = refl
-plain-receiver (receiver.By level) = no-tab-number level.0
+plain-receiver None = refl
+plain-receiver (Some level) = no-tab-number level.0
 
 plain-group : (level : ℕ) (d : Denial) → every no_tab (group level d) ≡ true
 unfolding group kind_field
@@ -51,7 +51,7 @@ fields-of-line (Levels by first second third) =
 
 -- Numbers with one text are equal.
 one_number : (m n : ℕ) → m < 2 ^ 64 → n < 2 ^ 64 → decimal m ≡ decimal n → m ≡ n
-one_number m n h k e = let same : Value m ≡ Value n = sym (round_trip m h) ∙ ap read_decimal e ∙ round_trip n k in cc
+one_number m n h k e = let same : Some m ≡ Some n = sym (round_trip m h) ∙ ap read_decimal e ∙ round_trip n k in cc
 
 one-kind : (a b : Bool) → kind_field a ≡ kind_field b → a ≡ b
 unfolding kind_field
@@ -61,15 +61,15 @@ one-kind false true e = absurd (let z : ◌≡◌ {A = ℕ} 0 1 = cc in omega ar
 one-kind false false e = refl
 
 -- A word that is no number.
-no_word : (word : List ℕ) (n : ℕ) → n < 2 ^ 64 → read_decimal word ≡ Malformed → word ≡ decimal n → ⊥
+no_word : (word : List ℕ) (n : ℕ) → n < 2 ^ 64 → read_decimal word ≡ None → word ≡ decimal n → ⊥
 no_word word n h m e = no_number (sym m ∙ ap read_decimal e ∙ round_trip n h)
 
-one-receiver : (a b : Receiver) → ReceiverFits a → ReceiverFits b → receiver_field a ≡ receiver_field b → a ≡ b
+one-receiver : (a b : Option Level) → ReceiverFits a → ReceiverFits b → receiver_field a ≡ receiver_field b → a ≡ b
 unfolding receiver_field read_decimal
-one-receiver receiver.Nobody receiver.Nobody h k e = refl
-one-receiver receiver.Nobody (receiver.By level) h k e = absurd (no_word (bytes "none") level.0 k refl e)
-one-receiver (receiver.By level) receiver.Nobody h k e = absurd (no_word (bytes "none") level.0 h refl (sym e))
-one-receiver (receiver.By level) (receiver.By other) h k e = ap (λ (n : ℕ). receiver.By (level_of n)) (one_number level.0 other.0 h k e)
+one-receiver None None h k e = refl
+one-receiver None (Some level) h k e = absurd (no_word (bytes "none") level.0 k refl e)
+one-receiver (Some level) None h k e = absurd (no_word (bytes "none") level.0 h refl (sym e))
+one-receiver (Some level) (Some other) h k e = ap (λ (n : ℕ). Some (level_of n)) (one_number level.0 other.0 h k e)
 
 -- The first of some fields, and that they do not begin with a level's number.
 abbrev first_of : List (List ℕ) → List ℕ
@@ -116,12 +116,12 @@ above-three e = omega (arith, other-first [] (decimal 3) e)
 
 -- The words `allowed` and `host` are no receiver.
 abbrev Word : List ℕ → Type 0
-Word word = (read_decimal word ≡ Malformed) × (word ≡ bytes "none" → ⊥)
+Word word = (read_decimal word ≡ None) × (word ≡ bytes "none" → ⊥)
 
-no-receiver : (word : List ℕ) (by : Receiver) → Word word → ReceiverFits by → word ≡ receiver_field by → ⊥
+no-receiver : (word : List ℕ) (by : Option Level) → Word word → ReceiverFits by → word ≡ receiver_field by → ⊥
 unfolding receiver_field
-no-receiver word receiver.Nobody w h e = w.1 e
-no-receiver word (receiver.By level) w h e = no_word word level.0 h w.0 e
+no-receiver word None w h e = w.1 e
+no-receiver word (Some level) w h e = no_word word level.0 h w.0 e
 
 allowed-word : Word (bytes "allowed")
 unfolding read_decimal

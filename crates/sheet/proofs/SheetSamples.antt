@@ -1,12 +1,12 @@
 -- Sheets that are read by computation: of good form, of no form, and the verdicts on one that is right, one that is wrong and one that has
 -- no form. Assumes nothing.
+use Rattle.std.specs.Prelude.{None, Some}
 use mathlib.Core.Bool.{true, false}
 use mathlib.Core.List.{List, [], ◌∷◌, map}
 use mathlib.Core.Path.{◌≡◌, refl}
 use Prim.Native.String.{String}
 use Rattle.decimal.specs.Read.{read_decimal}
 use Rattle.decimal.specs.Write.{digits_before, digits_in}
-use Rattle.explanation.specs.declared.Receiver.TheVariants as receiver
 use Rattle.model.specs.State.{level}
 use Rattle.records.specs.RecordTexts.{ended}
 use Rattle.script.specs.Bytes.{bytes, same}
@@ -42,7 +42,7 @@ sheet-forms = (refl, refl, refl)
 
 -- Levels 1 and 3 deny a user fetch, level 1 with MBEC; level 3 alone is enabled there.
 unfoldable pub why : Explanation
-why = Levels (receiver.By (level 3)) (By 7 8 true) Absent (By 3 4 false)
+why = Levels (Some (level 3)) (By 7 8 true) Absent (By 3 4 false)
 
 pub sample-line : sheet_line why ≡ bytes "3\t1\t7\t8\tmbec\t3\t3\t4\tplain"
 unfolding why sheet_line sheet_fields receiver_field group kind_field parted digits_before digits_in

@@ -1,17 +1,17 @@
 -- What is proved of sheets (02, request 3), each once for all explanations and sheets. Assumes nothing.
-use Rattle.std.specs.Prelude.{Bool, true, false, ◌||◌, List, ◌∷◌, ◌≡◌, ℕ, ◌<◌, ◌≤◌, ◌^◌, length}
-use Rattle.explanation.specs.declared.Receiver.TheVariants as receiver
+use Rattle.std.specs.Prelude.{Bool, true, false, ◌||◌, List, ◌∷◌, ◌≡◌, ℕ, ◌<◌, ◌≤◌, ◌^◌, length, None, Some, Option}
 use Rattle.records.specs.RecordTexts.{ended}
 use Rattle.script.specs.Bytes.{bytes, same}
 use Rattle.script.specs.LineForms.{fields}
 use Rattle.sheet.specs.SheetForms.{good_form}
-use Rattle.sheet.specs.Sheets.{Denial, Absent, By, Explanation, Allowed, Host, Levels, Receiver, longest_sheet, sheet_fields, sheet_line, sheet_text}
+use Rattle.sheet.specs.Sheets.{Denial, Absent, By, Explanation, Allowed, Host, Levels, longest_sheet, sheet_fields, sheet_line, sheet_text}
 use Rattle.sheet.specs.Verdicts.{longest_verdict, same_fields, verdict}
+use Rattle.model.specs.declared.quantity.Level.{Level}
 
 -- The numbers of an explanation are words, as all that code holds are.
-abbrev pub ReceiverFits : Receiver → Type 0
-ReceiverFits receiver.Nobody = Unit {0}
-ReceiverFits (receiver.By level) = level.0 < 2 ^ 64
+abbrev pub ReceiverFits : Option Level → Type 0
+ReceiverFits None = Unit {0}
+ReceiverFits (Some level) = level.0 < 2 ^ 64
 
 abbrev pub DenialFits : Denial → Type 0
 DenialFits Absent = Unit {0}

@@ -1,20 +1,19 @@
 -- The sheet of an explanation: one line, its fields parted by tabs (02, request 3). Assumes nothing.
-use Rattle.std.specs.Prelude.{Bool, true, false, List, [], ◌∷◌, ◌++◌, ℕ}
+use Rattle.std.specs.Prelude.{Bool, true, false, List, [], ◌∷◌, ◌++◌, ℕ, None, Option, Some}
 use Rattle.decimal.specs.Write.{decimal}
 pub use Rattle.explanation.specs.declared.Denial.{Denial}
 pub use Rattle.explanation.specs.declared.Denial.TheVariants.{Absent, By}
 pub use Rattle.explanation.specs.declared.Explanation.{Explanation}
 pub use Rattle.explanation.specs.declared.Explanation.TheVariants.{Allowed, Host, Levels}
-pub use Rattle.explanation.specs.declared.Receiver.{Receiver}
-use Rattle.explanation.specs.declared.Receiver.TheVariants as receiver
 use Rattle.records.specs.RecordTexts.{ended}
 use Rattle.script.specs.Bytes.{bytes}
 use Rattle.script.specs.Texts.{together}
+use Rattle.model.specs.declared.quantity.Level.{Level}
 
 -- The receiving level or `none`.
-unfoldable pub receiver_field : Receiver → List ℕ
-receiver_field receiver.Nobody = bytes "none"
-receiver_field (receiver.By level) = decimal level.0
+unfoldable pub receiver_field : Option Level → List ℕ
+receiver_field None = bytes "none"
+receiver_field (Some level) = decimal level.0
 
 -- `mbec` where MBEC counted, else `plain`.
 unfoldable pub kind_field : Bool → List ℕ

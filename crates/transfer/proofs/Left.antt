@@ -1,4 +1,5 @@
 -- The text of a state record by record, and what is left to write along the walk. Assumes nothing.
+use Rattle.std.specs.Prelude.{None, Option, Some}
 use mathlib.Core.Path.{◌≡◌, refl, sym, ap, ◌∙◌}
 use mathlib.Core.Bool.{true}
 use mathlib.Core.List.{List, [], ◌∷◌, ◌++◌, map, append-nil, append_assoc}
@@ -13,8 +14,6 @@ use Rattle.script.specs.Bytes.{bytes}
 use Rattle.script.specs.LineForms.{tab}
 use Rattle.script.specs.ListingLine.{cell, line_feed}
 use Rattle.script.specs.Texts.{parted, first_line_of, first_text, written}
-use Rattle.records.specs.declared.place.Next.{Next}
-use Rattle.records.specs.declared.place.Next.TheVariants.{At, Done}
 use Rattle.records.specs.declared.place.Place.{Place}
 use Rattle.records.specs.Places.{places, has, end_rank, rank}
 use Rattle.records.specs.RecordTexts.{closed, front, record_line, first_of, lines_at, record_lines, ended, records_text}
@@ -60,11 +59,11 @@ first-is c =
     ∙ ap (λ (l : List ℕ). (bytes "vsm" ++ l) ++ line_feed ∷ []) (parted-is (first_numbers c) x)
 
 -- What is written, the places that are left, and where the walk stands: at the first of them.
-pub record Left (c : Setup) (g : Place → ℕ) (out₀ : List ℕ) (start : ℕ) (out : List ℕ) (at : ℕ) (due : Next) : Type 0 where
+pub record Left (c : Setup) (g : Place → ℕ) (out₀ : List ℕ) (start : ℕ) (out : List ℕ) (at : ℕ) (due : Option Place) : Type 0 where
   pub done : List ℕ
   pub rest : List Place
   pub lo : ℕ
-  pub walk : Walk c due rest Done
+  pub walk : Walk c due rest None
   pub run : Run c lo rest (end_rank c)
   pub whole : done ++ text_at g rest ≡ text_at g (places c)
   pub wrote : Written out₀ start done at out
@@ -89,15 +88,15 @@ module _ (c : Setup) (g : Place → ℕ) (out₀ : List ℕ) (start : ℕ) where
     pub rises : rank p < due_rank c (next_of c p)
     pub goes : (after : ℕ) (last : List ℕ) → Written out at (record_text p (g p)) after last → Left c g out₀ start last after (next_of c p)
 
-  pub left_at : (out : List ℕ) (at : ℕ) (p : Place) → Left c g out₀ start out at (At p) → Due out at p
+  pub left_at : (out : List ℕ) (at : ℕ) (p : Place) → Left c g out₀ start out at (Some p) → Due out at p
   left_at out at p l = go l.rest l.walk l.run l.whole
     where
-      go : (rest : List Place) → Walk c (At p) rest Done → Run c l.lo rest (end_rank c) → l.done ++ text_at g rest ≡ text_at g (places c) → Due out at p
+      go : (rest : List Place) → Walk c (Some p) rest None → Run c l.lo rest (end_rank c) → l.done ++ text_at g rest ≡ text_at g (places c) → Due out at p
       go [] w r e = not-ended w
       go (q ∷ ps) w r e =
           let same : q ≡ p = (let k = w.0 in cc) in
           let run : Run c (suc (rank p)) ps (end_rank c) = rw same at r.2 in
-          let walk : Walk c (next_of c p) ps Done = rw same at w.1 in
+          let walk : Walk c (next_of c p) ps None = rw same at w.1 in
           let opened : l.done ++ (record_text q (g q) ++ text_at g ps) ≡ text_at g (places c) = unfold text_at in e in
           let whole : l.done ++ (record_text p (g p) ++ text_at g ps) ≡ text_at g (places c) = rw same at opened in
           record {
@@ -124,10 +123,10 @@ module _ (c : Setup) (g : Place → ℕ) (out₀ : List ℕ) (start : ℕ) where
           }
 
   -- Nothing is left.
-  pub left-done : (out : List ℕ) (at : ℕ) → Left c g out₀ start out at Done → Written out₀ start (text_at g (places c)) at out
+  pub left-done : (out : List ℕ) (at : ℕ) → Left c g out₀ start out at None → Written out₀ start (text_at g (places c)) at out
   left-done out at l = go l.rest l.walk l.whole
     where
-      go : (rest : List Place) → Walk c Done rest Done → l.done ++ text_at g rest ≡ text_at g (places c) → Written out₀ start (text_at g (places c)) at out
+      go : (rest : List Place) → Walk c None rest None → l.done ++ text_at g rest ≡ text_at g (places c) → Written out₀ start (text_at g (places c)) at out
       go [] w e =
           let all : l.done ≡ text_at g (places c) = sym (append-nil l.done) ∙ (unfold text_at in e) in
           rw (← all) l.wrote

@@ -1,9 +1,9 @@
 -- The state of the parts that code lends is `Sized`: its arrays have their sizes, and each quantity is a word, as the parts are arrays of
 -- words. So the theorems of crate `records` hold of it. Assumes nothing.
+use Rattle.std.specs.Prelude.{Some}
 use mathlib.Core.Path.{◌≡◌, refl}
 use mathlib.Core.Bool.{Bool, true, false, cond, ◌&&◌}
 use mathlib.Core.List.{List, [], ◌∷◌, ◌++◌}
-use mathlib.Core.Option.{some}
 use Prim.Native.Nat.{ℕ, zero, suc, ◌+◌, ◌*◌, ◌<◌, ◌^◌}
 use native.Mathlib.Omega.{arith}
 use lib.Dec.{ltb}
@@ -257,5 +257,5 @@ module _ (setup : Setup) (levels masks words : List ℕ) (rows : List (List ℕ)
 
     -- Reading what was written of these parts gives their state, and leaves the script that follows.
     pub lent_back : well_formed S ≡ true → (script : List ℕ)
-        → passed_on (lines (records_text S ++ script)) ≡ some (record { state = plain S; rest = lines script })
+        → passed_on (lines (records_text S ++ script)) ≡ Some (record { state = plain S; rest = lines script })
     lent_back formed script = read_back S formed lent-sized script

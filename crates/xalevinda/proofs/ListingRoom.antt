@@ -1,6 +1,6 @@
 -- How much room the text of an input takes at most: 84 bytes for each line that ends, and for one more. Assumes nothing.
+use Rattle.std.specs.Prelude.{None, Option, Some}
 use mathlib.Core.List.{List, [], ◌∷◌}
-use mathlib.Core.Option.{Option, none, some}
 use mathlib.Core.Path.{◌≡◌, refl, ap}
 use Prim.Native.Nat.{ℕ, suc, ◌+◌, ◌*◌, ◌/◌, ◌≤◌, ◌<◌}
 use borrow.Author.Tests.{eq-eqb, ne_eqb}
@@ -40,8 +40,8 @@ later-at-most number s (line ∷ ls) =
     omega (arith, length-append (record_of number a) (later_records (number_after number) a.next ls), record-at-most number a, later-at-most (number_after number) a.next ls)
 
 from-at-most : (o : Option State) (more : List (List ℕ)) → length (listing_from o more) ≤ 84 + 84 * length more
-from-at-most none more = omega (arith, line-at-most 0 1 0 0)
-from-at-most (some s) more = omega (arith, length-append first_done (later_records 1 s more), line-at-most 0 0 0 0, later-at-most 1 s more)
+from-at-most None more = omega (arith, line-at-most 0 1 0 0)
+from-at-most (Some s) more = omega (arith, length-append first_done (later_records 1 s more), line-at-most 0 0 0 0, later-at-most 1 s more)
 
 of-at-most : (ls : List (List ℕ)) (n : ℕ) → length ls ≤ suc n → length (listing_of ls) ≤ 84 * suc n
 of-at-most [] n h = omega (arith, line-at-most 0 1 0 0)
@@ -71,10 +71,10 @@ unfolding resumed
 resumed-at-most input = go (passed_on (lines input)) refl
   where
     go : (o : Option Passed) → passed_on (lines input) ≡ o → length (resumed_from o) ≤ 84 * suc (length (lines_in input).complete)
-    go none e = omega (arith, line-at-most 0 1 0 0)
-    go (some r) e =
+    go None e = omega (arith, line-at-most 0 1 0 0)
+    go (Some r) e =
         let these = ap length (only-records input r e).these in
-        omega (arith, from-at-most (some r.state) r.rest, these, length-append (record_lines r.state) r.rest, some-lines r.state, lines-at-most input)
+        omega (arith, from-at-most (Some r.state) r.rest, these, length-append (record_lines r.state) r.rest, some-lines r.state, lines-at-most input)
 
 text-at-most : (begins : Begins) (input : List ℕ) → length (text_of begins input) ≤ 84 * suc (length (lines_in input).complete)
 text-at-most begins.FirstLine input = listing-at-most input
@@ -90,8 +90,8 @@ unfolding opened
 opened-at-most input = go (passed_on (lines input))
   where
     go : (o : Option Passed) → length (opened_by input o).text ≤ 84
-    go none = line-at-most 0 1 0 0
-    go (some r) = line-at-most 0 0 0 0
+    go None = line-at-most 0 1 0 0
+    go (Some r) = line-at-most 0 0 0 0
 
 -- What is saved.
 pub saved-at-most : (p : Progress) → length (saved_text p) ≤ longest_text
@@ -129,5 +129,5 @@ pub counted-done : (script : List ℕ) (i count : ℕ) → Counted script i coun
 unfolding lines_in
 counted-done script i count w end =
     let last : i ≡ length script = omega (arith, w) in
-    let none : drop i script ≡ [] = rw last (drop-length script) in
-    omega (arith, w, ap (λ (l : List ℕ). length (lines_in l).complete) none)
+    let None : drop i script ≡ [] = rw last (drop-length script) in
+    omega (arith, w, ap (λ (l : List ℕ). length (lines_in l).complete) None)

@@ -1,5 +1,6 @@
 -- `line::line_value` meets its contract: a number behind the front of the record, which is 0 or 1 where it says yes or no.
 -- Assumes nothing.
+use Rattle.std.specs.Prelude.{Option, Some}
 use mathlib.Core.Bool.{true, false}
 use mathlib.Core.Path.{◌≡◌, sym, ap, ◌∙◌}
 use Prim.Native.Nat.{ℕ, ◌-◌}
@@ -10,15 +11,13 @@ use lib.Seq.{take_all}
 use Rattle.decimal.specs.Read.{read_decimal}
 use Rattle.records.specs.Reading.{is_flag, line_value, number_after, taken}
 use Rattle.records.specs.RecordTexts.{front}
-use Rattle.decimal.specs.declared.Number.{Number}
 use Rattle.records.specs.declared.place.Place.{Place}
 use Rattle.reader.specs.PastBytes.{After}
-use Rattle.reader.specs.declared.line.Past.TheVariants.{At}
 use Rattle.reader.proofs.Beginnings.{behind-front, no_front}
 use Rattle.reader.proofs.line.line_value.Goals as goal
 
 -- The number that is read behind the front of the record.
-number : (line : List ℕ) (p : Place) (end : ℕ) (n : Number) → After line 0 (front p) (At end)
+number : (line : List ℕ) (p : Place) (end : ℕ) (n : Option ℕ) → After line 0 (front p) (Some end)
     → n ≡ read_decimal (take (length line - end) (drop end line)) → n ≡ number_after (front p) line
 number line p end n h e =
     e ∙ ap read_decimal (take_all (length line - end) (drop end line) (omega (arith, length-drop end line))) ∙ sym (behind-front line p end h)

@@ -1,12 +1,12 @@
 -- `places::read_places` meets its contract. The loop's invariant: `Reads` of proofs/Taking.antt. The measure is what is left of the ranks.
 -- Assumes nothing.
+use Rattle.std.specs.Prelude.{Option}
 use mathlib.Core.Bool.{false}
 use mathlib.Core.Path.{sym, ap, ◌∙◌}
 use Prim.Native.Nat.{◌<◌, ◌≤◌}
 use native.Mathlib.Omega.{arith}
 use lib.ListN.{length}
 use Rattle.chunk.proofs.ChunkLines.{end-within}
-use Rattle.decimal.specs.declared.Number.{Number}
 use Rattle.records.specs.Reading.{taken}
 use Rattle.reader.proofs.Taking.{reads_at, reads-done, reads-start}
 use Rattle.reader.proofs.places.read_places.Goals as goal
@@ -37,7 +37,7 @@ line_value-requires c = (reads_at (rw c.in-At.is at c.loop-due.invariant)).room
 pub returns-in_default-line_value : goal.returns-in_default-line_value
 returns-in_default-line_value c =
     (reads_at (rw c.in-At.is at c.loop-due.invariant)).refused c.line_end-end.result c.line_end-end.ensures c.if-input-at.false
-    (sym c.line_value.ensures ∙ ap (λ (n : Number). taken false n) c.in_default-line_value.is)
+    (sym c.line_value.ensures ∙ ap (λ (n : Option ℕ). taken false n) c.in_default-line_value.is)
 
 pub store-requires : goal.store-requires
 store-requires c = (reads_at (rw c.in-At.is at c.loop-due.invariant)).room
@@ -50,6 +50,6 @@ loop-due-smaller c =
 pub loop-due-preserved : goal.loop-due-preserved
 loop-due-preserved c =
     let d = reads_at (rw c.in-At.is at c.loop-due.invariant) in
-    let said = sym c.line_value.ensures ∙ ap (λ (n : Number). taken false n) c.in-Value.is in
+    let said = sym c.line_value.ensures ∙ ap (λ (n : Option ℕ). taken false n) c.in-Value.is in
     rw (c.next-due.ensures, c.after_line-at.ensures, c.store.ensures)
     (d.taken c.line_end-end.result c.in-Value.value c.line_end-end.ensures c.if-input-at.false said)

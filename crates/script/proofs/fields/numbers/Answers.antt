@@ -28,7 +28,7 @@ returns-in_default c =
 
 pub loop-count-preserved : goal.loop-count-preserved
 loop-count-preserved c =
-    number_read c.loop-count.invariant _ c.if-line-start.false c.number_end-end.ensures c.read.ensures c.in-Value.is
+    number_read c.loop-count.invariant _ c.if-line-start.false c.number_end-end.ensures c.read.ensures c.in-Some.is
     c.loop-count-test.true
 
 pub returns : goal.returns

@@ -1,5 +1,6 @@
 -- `script::words::word_with_c` meets its contract: a line of one byte begins with no word, and the second byte of another tells whether it
 -- can be a word of request 6. Assumes nothing.
+use Rattle.std.specs.Prelude.{None, Option, Some}
 use mathlib.Core.List.{List, [], ◌∷◌, map}
 use mathlib.Core.Path.{◌≡◌, sym}
 use Prim.Native.Nat.{ℕ, ◌<◌}
@@ -8,13 +9,12 @@ use lib.ListN.{get_or, length}
 use Rattle.script.specs.Bytes.{bytes}
 use Rattle.script.specs.EventWords.{named_among, words_with_c}
 use Rattle.script.specs.declared.words.ActionWord.TheVariants.{Call, Config, Caps, Cri, Crm}
-use Rattle.script.specs.declared.words.Named.TheVariants.{Nothing}
 use Rattle.script.specs.declared.words.Word.TheVariants.{Made}
 use Rattle.script.proofs.Naming.{other_at, too_short}
 use Rattle.script.proofs.words.word_with_c.Goals as goal
 
 module _ (line : List ℕ) where
-  none-short : length line < 2 → Nothing ≡ named_among words_with_c line
+  none-short : length line < 2 → None ≡ named_among words_with_c line
   none-short h =
       rw (
         too_short line (bytes "call") (omega arith),

@@ -1,4 +1,5 @@
 -- `sheet_text::write_sheet` meets its contract: a word, or the receiver and the fields of each level. Assumes nothing.
+use Rattle.std.specs.Prelude.{Option}
 use mathlib.Core.List.{List, ◌++◌}
 use mathlib.Core.Path.{◌≡◌, ap}
 use Prim.Native.Nat.{ℕ, ◌+◌, ◌≤◌}
@@ -9,8 +10,9 @@ use Rattle.script.specs.Bytes.{bytes}
 use Rattle.script.specs.Texts.{parted}
 use Rattle.sheet.proofs.SheetLengths.{line-length, line-of-levels}
 use Rattle.sheet.proofs.TextPutting.{Begun, begun-written, first-room, put-start, second-room, written-begun}
-use Rattle.sheet.specs.Sheets.{Denial, Explanation, Levels, Receiver, group, longest_sheet, receiver_field, sheet_fields, sheet_line}
+use Rattle.sheet.specs.Sheets.{Denial, Explanation, Levels, group, longest_sheet, receiver_field, sheet_fields, sheet_line}
 use Rattle.sheet.proofs.sheet_text.write_sheet.Goals as goal
+use Rattle.model.specs.declared.quantity.Level.{Level}
 
 pub returns-in-Allowed : goal.returns-in-Allowed
 unfolding sheet_line sheet_fields parted
@@ -26,7 +28,7 @@ returns-in-Host c =
 record Parts : Type 0 where
   out : List ℕ
   explanation : Explanation
-  receiver : Receiver
+  receiver : Option Level
   first : Denial
   second : Denial
   third : Denial
