@@ -5,58 +5,44 @@
 ghost use Rattle.std.specs.Prelude.{◌≡◌};
 ghost use Rattle.asked.specs.AskedAccess.{asked_by, asked_of};
 
+use model::answer::Refusal;
 use model::event::{Action, Event};
 use model::quantity::{Access, Page, Processor};
-use script::Parsed;
 
-// The access that a line asks for, if it does.
+// An access that a line asks for.
 #[derive(Clone, Copy)]
-pub enum Asked {
-    Access {
-        vp: Processor,
-        mode: u64,
-        page: Page,
-        access: Access,
-    },
-    Nothing,
+pub struct Asked {
+    pub vp: Processor,
+    pub mode: u64,
+    pub page: Page,
+    pub access: Access,
 }
 
 // The access that an action is. Any other action is none.
-fn asked_of(vp: Processor, mode: u64, action: Action) -> Asked
+fn asked_of(vp: Processor, mode: u64, action: Action) -> Option<Asked>
     ensures { result ≡ asked_of vp mode action }
 {
-    match action {
-        Action::Read { page } => Asked::Access {
-            vp,
-            mode,
-            page,
-            access: Access::Read,
-        },
-        Action::Write { page, value } => Asked::Access {
-            vp,
-            mode,
-            page,
-            access: Access::Write,
-        },
-        Action::Fetch { page } => Asked::Access {
-            vp,
-            mode,
-            page,
-            access: Access::Fetch,
-        },
-        _ => Asked::Nothing,
-    }
+    let (page, access) = match action {
+        Action::Read { page } => (page, Access::Read),
+        Action::Write { page, .. } => (page, Access::Write),
+        Action::Fetch { page } => (page, Access::Fetch),
+        _ => return None,
+    };
+    Some(Asked {
+        vp,
+        mode,
+        page,
+        access,
+    })
 }
 
-// The access that a line asks for.
-pub fn asked_by(parsed: Parsed) -> Asked
-    ensures { result ≡ asked_by parsed }
+// The access that a line asks for, by what it says.
+pub fn asked_by(said: Result<Event, Refusal>) -> Option<Asked>
+    ensures { result ≡ asked_by said }
 {
-    match parsed {
-        Parsed::Event(event) => match event {
-            Event::Made { vp, mode, action } => asked_of(vp, mode, action),
-            Event::Int { .. } => Asked::Nothing,
-        },
-        Parsed::Malformed(refusal) => Asked::Nothing,
+    match said {
+        Ok(Event::Made { vp, mode, action }) => asked_of(vp, mode, action),
+        Ok(Event::Int { .. }) => None,
+        Err(_) => None,
     }
 }

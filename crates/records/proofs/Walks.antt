@@ -14,7 +14,7 @@ use Rattle.model.specs.State.{level, top}
 use Rattle.script.specs.EventForms.{processor, page}
 use Rattle.model.specs.declared.machine.Setup.{Setup}
 use Rattle.records.specs.Places.{Place, Shared, Register, Tpr, Pending, Enabled, Secure, Reason, From, Rax, Rcx, Mask, Intercepts, Cr0Mask, rising, private_count, shared_count, level_places, processor_places, upper_places, context_places, page_places, per_upper, cr_mask_places, of_levels, of_processors, of_contexts, of_pages, of_intercepts, of_cr_masks, places, rank, end_rank}
-use Rattle.records.specs.Walk.{On, Nowhere, upper_from, upper_at, placed, to_cr_mask, to_intercepts, to_page, to_mask, to_contexts, to_context, to_register, to_pending, to_secure, to_processor, to_shared, to_level, next_of, first_due}
+use Rattle.records.specs.Walk.{upper_from, upper_at, placed, to_cr_mask, to_intercepts, to_page, to_mask, to_contexts, to_context, to_register, to_pending, to_secure, to_processor, to_shared, to_level, next_of, first_due}
 use Rattle.records.proofs.Sequence.{Run, counts, count-bounds}
 
 -- The walk from a goes over these places and comes to b.
@@ -133,7 +133,7 @@ module _ (c : Setup) where
     unfolding upper_at
     first-upper v h = rw (lt-ltb v c.processors h) (go (ltb 0 (top c.shape)) refl)
       where
-        go : (b : Bool) → ltb 0 (top c.shape) ≡ b → cond b (On (processor v) (level 1)) Nowhere ≡ upper_at c (processor v) 1
+        go : (b : Bool) → ltb 0 (top c.shape) ≡ b → cond b (Some (processor v, level 1)) None ≡ upper_at c (processor v) 1
         go true e = rw (le-leb 1 (top c.shape) (omega (arith, ltb-true 0 (top c.shape) e)))
         go false e = rw (lt-leb 1 (top c.shape) (omega (arith, ltb-false 0 (top c.shape) e)), and-false (ltb (v + 1) c.processors))
 

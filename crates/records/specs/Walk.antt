@@ -7,27 +7,25 @@ use Rattle.model.specs.declared.quantity.Processor.{Processor}
 use Rattle.model.specs.declared.quantity.Level.{Level}
 use Rattle.model.specs.State.{level, top}
 use Rattle.script.specs.EventForms.{processor, page}
-pub use Rattle.records.specs.declared.place.Upper.{Upper}
-pub use Rattle.records.specs.declared.place.Upper.TheVariants.{On, Nowhere}
 use Rattle.records.specs.Places.{Place, PartitionEnabled, Mbec, Config, Active, Shared, Register, Tpr, Pending, Enabled, Secure, Reason, From, Rax, Rcx, Word, Mask, Intercepts, Cr0Mask, Cr4Mask, private_count}
 use Rattle.records.specs.declared.place.Place.{Place}
 
 -- The levels from 1 of all processors: the first one from a processor on, and from a level of a processor on.
-abbrev pub upper_from : Setup → ℕ → Upper
-upper_from setup v = cond (ltb v setup.processors && ltb 0 (top setup.shape)) (On (processor v) (level 1)) Nowhere
+abbrev pub upper_from : Setup → ℕ → Option (Processor × Level)
+upper_from setup v = cond (ltb v setup.processors && ltb 0 (top setup.shape)) (Some (processor v, level 1)) None
 
-unfoldable pub upper_at : Setup → Processor → ℕ → Upper
-upper_at setup v t = cond (leb t (top setup.shape)) (On v (level t)) (upper_from setup (v.0 + 1))
+unfoldable pub upper_at : Setup → Processor → ℕ → Option (Processor × Level)
+upper_at setup v t = cond (leb t (top setup.shape)) (Some (v, level t)) (upper_from setup (v.0 + 1))
 
 -- The place of such a level, or what follows where there is none.
-abbrev pub placed : (Processor → Level → Place) → Option Place → Upper → Option Place
-placed place end (On v t) = Some (place v t)
-placed place end Nowhere = end
+abbrev pub placed : (Processor → Level → Place) → Option Place → Option (Processor × Level) → Option Place
+placed place end (Some (v, t)) = Some (place v t)
+placed place end None = end
 
-abbrev pub to_cr_mask : Upper → Option Place
+abbrev pub to_cr_mask : Option (Processor × Level) → Option Place
 to_cr_mask upper = placed Cr0Mask None upper
 
-abbrev pub to_intercepts : Setup → Upper → Option Place
+abbrev pub to_intercepts : Setup → Option (Processor × Level) → Option Place
 to_intercepts setup upper = placed Intercepts (to_cr_mask (upper_from setup 0)) upper
 
 unfoldable pub to_page : Setup → ℕ → Option Place

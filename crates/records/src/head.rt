@@ -10,10 +10,6 @@ const OF_CR0: u64 = 0;
 
 const OF_CR4: u64 = 4;
 
-// A word and its tab, in the first of eight bytes, and how many bytes they take.
-#[derive(Clone, Copy)]
-pub struct WordText(pub [u8; 8], pub usize);
-
 // At most three indices: the first `count` numbers.
 #[derive(Clone, Copy)]
 pub struct Indices {
@@ -21,31 +17,31 @@ pub struct Indices {
     pub count: usize,
 }
 
-// The word of a place's record.
-pub fn word_of(place: Place) -> WordText
-    ensures text { take result.1 result.0 ≡ (head_of place).word ++ tab ∷ [] }
-    ensures within { result.1 ≤ length result.0 }
+// The word of a place's record, with its tab.
+#[tactic(auto, unfolding(crate::specs::RecordTexts::head_of))]
+pub fn word_of(place: Place) -> &'static [u8]
+    ensures { result.now ≡ (head_of place).word ++ tab ∷ [] }
 {
     match place {
-        Place::PartitionEnabled(_) => WordText(*b"enabled\t", 8),
-        Place::Mbec(_) => WordText(*b"mbec\t   ", 5),
-        Place::Config(_) => WordText(*b"config\t ", 7),
-        Place::Active(_) => WordText(*b"active\t ", 7),
-        Place::Shared(_, _) => WordText(*b"shared\t ", 7),
-        Place::Register(_, _, _) => WordText(*b"reg\t    ", 4),
-        Place::Tpr(_, _) => WordText(*b"tpr\t    ", 4),
-        Place::Pending(_, _, _) => WordText(*b"pend\t   ", 5),
-        Place::Enabled(_, _) => WordText(*b"enabled\t", 8),
-        Place::Secure(_, _, _) => WordText(*b"secure\t ", 7),
-        Place::Reason(_, _) => WordText(*b"reason\t ", 7),
-        Place::From(_, _) => WordText(*b"from\t   ", 5),
-        Place::Rax(_, _) => WordText(*b"rax\t    ", 4),
-        Place::Rcx(_, _) => WordText(*b"rcx\t    ", 4),
-        Place::Word(_) => WordText(*b"word\t   ", 5),
-        Place::Mask(_, _) => WordText(*b"mask\t   ", 5),
-        Place::Intercepts(_, _) => WordText(*b"cri\t    ", 4),
-        Place::Cr0Mask(_, _) => WordText(*b"crm\t    ", 4),
-        Place::Cr4Mask(_, _) => WordText(*b"crm\t    ", 4),
+        Place::PartitionEnabled(_) => b"enabled\t",
+        Place::Mbec(_) => b"mbec\t",
+        Place::Config(_) => b"config\t",
+        Place::Active(_) => b"active\t",
+        Place::Shared(_, _) => b"shared\t",
+        Place::Register(_, _, _) => b"reg\t",
+        Place::Tpr(_, _) => b"tpr\t",
+        Place::Pending(_, _, _) => b"pend\t",
+        Place::Enabled(_, _) => b"enabled\t",
+        Place::Secure(_, _, _) => b"secure\t",
+        Place::Reason(_, _) => b"reason\t",
+        Place::From(_, _) => b"from\t",
+        Place::Rax(_, _) => b"rax\t",
+        Place::Rcx(_, _) => b"rcx\t",
+        Place::Word(_) => b"word\t",
+        Place::Mask(_, _) => b"mask\t",
+        Place::Intercepts(_, _) => b"cri\t",
+        Place::Cr0Mask(_, _) => b"crm\t",
+        Place::Cr4Mask(_, _) => b"crm\t",
     }
 }
 
@@ -81,6 +77,7 @@ fn three(a: u64, b: u64, c: u64) -> Indices
 }
 
 // The indices of a place's record.
+#[tactic(auto, unfolding(crate::specs::RecordTexts::head_of))]
 pub fn indices_of(place: Place) -> Indices
     ensures numbers { take result.count result.numbers ≡ (head_of place).indices }
     ensures within { result.count ≤ length result.numbers }

@@ -39,17 +39,3 @@ pub enum Place {
     Cr0Mask(Processor, Level),
     Cr4Mask(Processor, Level),
 }
-
-// The place whose record is due next, if there is one.
-#[derive(Clone, Copy)]
-pub enum Next {
-    At(Place),
-    Done,
-}
-
-// A level from 1 of a processor, if there is one.
-#[derive(Clone, Copy)]
-pub enum Upper {
-    On(Processor, Level),
-    Nowhere,
-}

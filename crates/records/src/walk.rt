@@ -7,7 +7,7 @@ ghost use Rattle.records.specs.Walk.{upper_from, upper_at, to_cr_mask, to_interc
 ghost use Rattle.records.specs.Walk.{to_page, to_mask, to_contexts, to_context, to_register, to_pending, to_secure};
 ghost use Rattle.records.specs.Walk.{to_processor, to_shared, to_level, next_of, first_due};
 
-use crate::place::{Next, Place, Upper};
+use crate::place::Place;
 use model::machine::{Setup, Shape};
 use model::quantity::{Level, Page, Processor};
 use model::register::{DR6, LAST_REGISTER};
@@ -23,55 +23,55 @@ fn private_count(shape: Shape) -> u64
 }
 
 // The levels from 1 of all processors: the first one from a processor on, and the one after a level of a processor.
-fn upper_from(setup: Setup, vp: Processor) -> Upper
+fn upper_from(setup: Setup, vp: Processor) -> Option<(Processor, Level)>
     ensures { result ≡ upper_from setup vp.0 }
 {
     if (vp.0 < setup.processors) & (0 < setup.shape.max_level.0) {
-        return Upper::On(vp, Level(1));
+        return Some((vp, Level(1)));
     }
-    Upper::Nowhere
+    None
 }
 
-fn upper_after(setup: Setup, vp: Processor, level: Level) -> Upper
+fn upper_after(setup: Setup, vp: Processor, level: Level) -> Option<(Processor, Level)>
     ensures { result ≡ upper_at setup vp (level.0 + 1) }
 {
     if level.0 < setup.shape.max_level.0 {
-        return Upper::On(vp, Level(level.0 + 1));
+        return Some((vp, Level(level.0 + 1)));
     }
     if vp.0 < setup.processors {
         return upper_from(setup, Processor(vp.0 + 1));
     }
-    Upper::Nowhere
+    None
 }
 
-fn to_cr_mask(upper: Upper) -> Next
+fn to_cr_mask(upper: Option<(Processor, Level)>) -> Option<Place>
     ensures { result ≡ to_cr_mask upper }
 {
     match upper {
-        Upper::On(v, t) => Next::At(Place::Cr0Mask(v, t)),
-        Upper::Nowhere => Next::Done,
+        Some((v, t)) => Some(Place::Cr0Mask(v, t)),
+        None => None,
     }
 }
 
-fn to_intercepts(setup: Setup, upper: Upper) -> Next
+fn to_intercepts(setup: Setup, upper: Option<(Processor, Level)>) -> Option<Place>
     ensures { result ≡ to_intercepts setup upper }
 {
     match upper {
-        Upper::On(v, t) => Next::At(Place::Intercepts(v, t)),
-        Upper::Nowhere => to_cr_mask(upper_from(setup, Processor(0))),
+        Some((v, t)) => Some(Place::Intercepts(v, t)),
+        None => to_cr_mask(upper_from(setup, Processor(0))),
     }
 }
 
-fn to_page(setup: Setup, page: Page) -> Next
+fn to_page(setup: Setup, page: Page) -> Option<Place>
     ensures { result ≡ to_page setup page.0 }
 {
     if page.0 < setup.pages {
-        return Next::At(Place::Word(page));
+        return Some(Place::Word(page));
     }
     to_intercepts(setup, upper_from(setup, Processor(0)))
 }
 
-fn after_page(setup: Setup, page: Page) -> Next
+fn after_page(setup: Setup, page: Page) -> Option<Place>
     ensures { result ≡ to_page setup (page.0 + 1) }
 {
     if page.0 < setup.pages {
@@ -80,25 +80,25 @@ fn after_page(setup: Setup, page: Page) -> Next
     to_intercepts(setup, upper_from(setup, Processor(0)))
 }
 
-fn after_mask(setup: Setup, page: Page, level: Level) -> Next
+fn after_mask(setup: Setup, page: Page, level: Level) -> Option<Place>
     ensures { result ≡ to_mask setup page (level.0 + 1) }
 {
     if level.0 < setup.shape.max_level.0 {
-        return Next::At(Place::Mask(page, Level(level.0 + 1)));
+        return Some(Place::Mask(page, Level(level.0 + 1)));
     }
     after_page(setup, page)
 }
 
-fn to_contexts(setup: Setup, vp: Processor) -> Next
+fn to_contexts(setup: Setup, vp: Processor) -> Option<Place>
     ensures { result ≡ to_contexts setup vp.0 }
 {
     if vp.0 < setup.processors {
-        return Next::At(Place::Register(vp, Level(0), 0));
+        return Some(Place::Register(vp, Level(0), 0));
     }
     to_page(setup, Page(0))
 }
 
-fn after_contexts(setup: Setup, vp: Processor) -> Next
+fn after_contexts(setup: Setup, vp: Processor) -> Option<Place>
     ensures { result ≡ to_contexts setup (vp.0 + 1) }
 {
     if vp.0 < setup.processors {
@@ -107,64 +107,64 @@ fn after_contexts(setup: Setup, vp: Processor) -> Next
     to_page(setup, Page(0))
 }
 
-fn after_context(setup: Setup, vp: Processor, level: Level) -> Next
+fn after_context(setup: Setup, vp: Processor, level: Level) -> Option<Place>
     ensures { result ≡ to_context setup vp (level.0 + 1) }
 {
     if level.0 < setup.shape.max_level.0 {
-        return Next::At(Place::Register(vp, Level(level.0 + 1), 0));
+        return Some(Place::Register(vp, Level(level.0 + 1), 0));
     }
     after_contexts(setup, vp)
 }
 
-fn after_register(setup: Setup, vp: Processor, level: Level, register: u64) -> Next
+fn after_register(setup: Setup, vp: Processor, level: Level, register: u64) -> Option<Place>
     ensures { result ≡ to_register setup vp level (register + 1) }
 {
     if register < private_count(setup.shape) - 1 {
-        return Next::At(Place::Register(vp, level, register + 1));
+        return Some(Place::Register(vp, level, register + 1));
     }
-    Next::At(Place::Tpr(vp, level))
+    Some(Place::Tpr(vp, level))
 }
 
-fn after_pending(setup: Setup, vp: Processor, level: Level, word: u64) -> Next
+fn after_pending(setup: Setup, vp: Processor, level: Level, word: u64) -> Option<Place>
     ensures { result ≡ to_pending setup vp level (word + 1) }
 {
     if word < LAST_PENDING {
-        return Next::At(Place::Pending(vp, level, word + 1));
+        return Some(Place::Pending(vp, level, word + 1));
     }
     if level.0 == 0 {
         return after_context(setup, vp, level);
     }
-    Next::At(Place::Enabled(vp, level))
+    Some(Place::Enabled(vp, level))
 }
 
-fn to_secure(vp: Processor, level: Level, lower: Level) -> Next
+fn to_secure(vp: Processor, level: Level, lower: Level) -> Option<Place>
     ensures { result ≡ to_secure vp level lower.0 }
 {
     if lower.0 < level.0 {
-        return Next::At(Place::Secure(vp, level, lower));
+        return Some(Place::Secure(vp, level, lower));
     }
-    Next::At(Place::Reason(vp, level))
+    Some(Place::Reason(vp, level))
 }
 
-fn after_secure(vp: Processor, level: Level, lower: Level) -> Next
+fn after_secure(vp: Processor, level: Level, lower: Level) -> Option<Place>
     ensures { result ≡ to_secure vp level (lower.0 + 1) }
 {
     if lower.0 < level.0 {
         return to_secure(vp, level, Level(lower.0 + 1));
     }
-    Next::At(Place::Reason(vp, level))
+    Some(Place::Reason(vp, level))
 }
 
-fn to_processor(setup: Setup, vp: Processor) -> Next
+fn to_processor(setup: Setup, vp: Processor) -> Option<Place>
     ensures { result ≡ to_processor setup vp.0 }
 {
     if vp.0 < setup.processors {
-        return Next::At(Place::Active(vp));
+        return Some(Place::Active(vp));
     }
     to_contexts(setup, Processor(0))
 }
 
-fn after_processor(setup: Setup, vp: Processor) -> Next
+fn after_processor(setup: Setup, vp: Processor) -> Option<Place>
     ensures { result ≡ to_processor setup (vp.0 + 1) }
 {
     if vp.0 < setup.processors {
@@ -173,54 +173,55 @@ fn after_processor(setup: Setup, vp: Processor) -> Next
     to_contexts(setup, Processor(0))
 }
 
-fn after_shared(setup: Setup, vp: Processor, register: u64) -> Next
+fn after_shared(setup: Setup, vp: Processor, register: u64) -> Option<Place>
     ensures { result ≡ to_shared setup vp (register + 1) }
 {
     if register < LAST_REGISTER {
-        return Next::At(Place::Shared(vp, register + 1));
+        return Some(Place::Shared(vp, register + 1));
     }
     after_processor(setup, vp)
 }
 
-fn after_level(setup: Setup, level: Level) -> Next
+fn after_level(setup: Setup, level: Level) -> Option<Place>
     ensures { result ≡ to_level setup (level.0 + 1) }
 {
     if level.0 < setup.shape.max_level.0 {
-        return Next::At(Place::PartitionEnabled(Level(level.0 + 1)));
+        return Some(Place::PartitionEnabled(Level(level.0 + 1)));
     }
     to_processor(setup, Processor(0))
 }
 
 // The first place of the sequence.
-pub fn first(setup: Setup) -> Next
+pub fn first(setup: Setup) -> Option<Place>
     ensures { result ≡ first_due setup }
 {
     after_level(setup, Level(0))
 }
 
 // The place that is due after another.
-pub fn next(setup: Setup, place: Place) -> Next
+#[tactic(auto, unfolding(crate::specs::Walk::next_of))]
+pub fn next(setup: Setup, place: Place) -> Option<Place>
     ensures { result ≡ next_of setup place }
 {
     match place {
-        Place::PartitionEnabled(t) => Next::At(Place::Mbec(t)),
-        Place::Mbec(t) => Next::At(Place::Config(t)),
+        Place::PartitionEnabled(t) => Some(Place::Mbec(t)),
+        Place::Mbec(t) => Some(Place::Config(t)),
         Place::Config(t) => after_level(setup, t),
-        Place::Active(v) => Next::At(Place::Shared(v, private_count(setup.shape))),
+        Place::Active(v) => Some(Place::Shared(v, private_count(setup.shape))),
         Place::Shared(v, r) => after_shared(setup, v, r),
         Place::Register(v, l, r) => after_register(setup, v, l, r),
-        Place::Tpr(v, l) => Next::At(Place::Pending(v, l, 0)),
+        Place::Tpr(v, l) => Some(Place::Pending(v, l, 0)),
         Place::Pending(v, l, i) => after_pending(setup, v, l, i),
         Place::Enabled(v, l) => to_secure(v, l, Level(0)),
         Place::Secure(v, l, k) => after_secure(v, l, k),
-        Place::Reason(v, l) => Next::At(Place::From(v, l)),
-        Place::From(v, l) => Next::At(Place::Rax(v, l)),
-        Place::Rax(v, l) => Next::At(Place::Rcx(v, l)),
+        Place::Reason(v, l) => Some(Place::From(v, l)),
+        Place::From(v, l) => Some(Place::Rax(v, l)),
+        Place::Rax(v, l) => Some(Place::Rcx(v, l)),
         Place::Rcx(v, l) => after_context(setup, v, l),
         Place::Word(p) => after_mask(setup, p, Level(0)),
         Place::Mask(p, t) => after_mask(setup, p, t),
         Place::Intercepts(v, t) => to_intercepts(setup, upper_after(setup, v, t)),
-        Place::Cr0Mask(v, t) => Next::At(Place::Cr4Mask(v, t)),
+        Place::Cr0Mask(v, t) => Some(Place::Cr4Mask(v, t)),
         Place::Cr4Mask(v, t) => to_cr_mask(upper_after(setup, v, t)),
     }
 }

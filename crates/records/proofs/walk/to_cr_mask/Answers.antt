@@ -1,8 +1,8 @@
 -- `walk::to_cr_mask` meets its contract: by the level, or by there being none. Assumes nothing.
 use Rattle.records.proofs.walk.to_cr_mask.Goals as goal
 
-pub returns-in-On : goal.returns-in-On
-returns-in-On c = rw c.in-On.is
+pub returns-in-Some : goal.returns-in-Some
+returns-in-Some c = rw c.in-Some.is
 
-pub returns-in-Nowhere : goal.returns-in-Nowhere
-returns-in-Nowhere c = rw c.in-Nowhere.is
+pub returns-in-None : goal.returns-in-None
+returns-in-None c = rw c.in-None.is
