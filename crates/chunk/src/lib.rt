@@ -6,7 +6,8 @@ ghost use lib.ListN.{take};
 ghost use Rattle.script.specs.First.{line_first};
 ghost use Rattle.chunk.specs.Chunk.{held, kept_bytes, line_end};
 
-use script::Start;
+use model::answer::Refusal;
+use model::machine::FirstLine;
 use script::search::find_far_byte;
 
 // A line has at most 256 bytes; one more is kept, so that a longer line is known to be too long.
@@ -55,7 +56,7 @@ pub fn held_length(line: &[u8; KEPT_BYTES], length: usize) -> usize
 }
 
 // What the first line says.
-pub fn parse_first(line: &[u8; KEPT_BYTES], length: usize) -> Start
+pub fn parse_first(line: &[u8; KEPT_BYTES], length: usize) -> Result<FirstLine, Refusal>
     ensures { result ≡ line_first (held line.now length) }
 {
     let buffer: &[u8] = line;

@@ -1,4 +1,5 @@
 -- The explanation by the parts that the function is given. Assumes nothing.
+use Rattle.std.specs.Prelude.{Option}
 use mathlib.Core.Path.{◌≡◌, refl, sym, ap, ◌∙◌}
 use mathlib.Core.Bool.{Bool, true, false, not, cond, ◌&&◌, and-true, and-false}
 use Prim.Native.Nat.{ℕ, ◌<◌}
@@ -64,7 +65,7 @@ module _ {z : Shape} {P : ℕ} {x : Partition} {p : VirtualProcessor} {s : State
   receiver-is = receiver-of s v mode page access ∙ rw (denying-is, acts.shaped, holds)
 
   -- What level t says of the access.
-  abbrev denial_at : ℕ → Denial
+  abbrev denial_at : ℕ → Option Denial
   denial_at t = denial_by (bit denying t) (mask_in z P x.masks t page.0) (bit mbecs.0 t) mode access
 
   denial-is : (t : ℕ) → t < 4 → denial_of s v mode page.0 access t ≡ denial_at t

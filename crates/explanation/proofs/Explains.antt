@@ -79,7 +79,7 @@ explains e x = record {
     number q = ap (λ f. number_of (answer_by f x)) q
 
 -- The conditions of an access one after the other, and the explanation: a receiver is one of those that deny.
-in-turn : (found denying host : Bool) (l : ℕ) (first second third : Denial) (x : ℕ) → (found ≡ true → denying ≡ true)
+in-turn : (found denying host : Bool) (l : ℕ) (first second third : Option Denial) (x : ℕ) → (found ≡ true → denying ≡ true)
     → cond found (Intercept (level l)) (cond denying (Refused Refusal.NoReceiver) (cond host (Refused Refusal.HostDenies) (Done x)))
     ≡ answer_by (cond denying (Levels (cond found (Some (level l)) None) first second third) (cond host Host Allowed)) x
 in-turn true true host l first second third x h = refl
@@ -138,7 +138,7 @@ module _ (s : State) (v : ℕ) (mode : Mode) (p : ℕ) (access : Access) where
       go true e = any_at 4 (denies s v mode p access) q t (ltb-true t 4 e)
       go false e = past-allows t (ltb-false t 4 e)
 
-  absent : (t : ℕ) → denies s v mode p access t ≡ false → Denial.Absent ≡ denial_of s v mode p access t
+  absent : (t : ℕ) → denies s v mode p access t ≡ false → None ≡ denial_of s v mode p access t
   unfolding denial_of denial_by
   absent t q = rw q
 

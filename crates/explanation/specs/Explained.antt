@@ -1,6 +1,6 @@
 -- Why an access is allowed or denied (02, request 3). Who denies, which bit is wanted and who receives the intercept is asked by the
 -- definitions that the access itself is decided by (01, "Memory"). Assumes nothing.
-use Rattle.std.specs.Prelude.{Bool, true, false, cond, ◌&&◌, ℕ, ◌^◌, ltb, Option}
+use Rattle.std.specs.Prelude.{Bool, true, false, cond, ◌&&◌, ℕ, ◌^◌, ltb, Option, None, Some}
 use Rattle.model.specs.declared.quantity.Access.{Access}
 use Rattle.model.specs.declared.quantity.Mode.{Mode}
 use Rattle.model.specs.Memory.{needed, mbec_counts, denies, denied, receiver, host_denies}
@@ -19,14 +19,18 @@ is_fetch Access.Read = false
 is_fetch Access.Write = false
 is_fetch Access.Fetch = true
 
+-- A denial by a level.
+abbrev pub denied_by : ℕ → ℕ → Bool → Option Denial
+denied_by mask wanted mbec = Some (record { mask = mask; wanted = wanted; mbec = mbec })
+
 -- For each denying level its mask, the wanted bit as a number, and `mbec` for a fetch where MBEC counted. `mbec` tells whether it
 -- counts for the level.
-unfoldable pub denial_by : Bool → ℕ → Bool → Mode → Access → Denial
+unfoldable pub denial_by : Bool → ℕ → Bool → Mode → Access → Option Denial
 denial_by denies mask mbec mode access =
-    cond denies (Denial.By mask (2 ^ needed mbec mode access) (is_fetch access && mbec)) Denial.Absent
+    cond denies (denied_by mask (2 ^ needed mbec mode access) (is_fetch access && mbec)) None
 
 -- How level t stands to an access on processor v.
-unfoldable pub denial_of : State → ℕ → Mode → ℕ → Access → ℕ → Denial
+unfoldable pub denial_of : State → ℕ → Mode → ℕ → Access → ℕ → Option Denial
 denial_of s v mode p access t =
     denial_by (denies s v mode p access t) (mask_of s t p) (mbec_counts s v t (active s v)) mode access
 

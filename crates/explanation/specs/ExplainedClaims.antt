@@ -1,6 +1,6 @@
 -- What is proved of the explanation of an access (proofs/Explains.antt), for every state, access and value that a write stores. Assumes
 -- nothing.
-use Rattle.std.specs.Prelude.{◌≡◌, Bool, true, false, ◌↔◌, ℕ, zero, suc, ◌/◌, ◌%◌, ◌^◌, ◌≤◌, ◌<◌, Option}
+use Rattle.std.specs.Prelude.{◌≡◌, Bool, true, false, ◌↔◌, ℕ, zero, suc, ◌/◌, ◌%◌, ◌^◌, ◌≤◌, ◌<◌, Option, None, Some}
 use Rattle.model.specs.declared.answer.Answer.{Answer}
 use Rattle.model.specs.declared.event.Event.TheVariants.{Made}
 use Rattle.model.specs.declared.quantity.Access.{Access}
@@ -20,9 +20,9 @@ use Rattle.explanation.specs.Explained.{denial_of, explanation_of}
 
 -- Levels deny, and this is who receives the intercept.
 pub record DeniedTo (e : Explanation) (r : Option Level) : Type 0 where
-  pub first : Denial
-  pub second : Denial
-  pub third : Denial
+  pub first : Option Denial
+  pub second : Option Denial
+  pub third : Option Denial
   pub is : e ≡ Explanation.Levels r first second third
 
 -- The answer a has the explanation e: `allowed` exactly where the access is done, `host` exactly at 11, a receiving level exactly at 9,
@@ -40,18 +40,18 @@ AnswerExplained = (s : State) (v : Processor) (mode : ℕ) (p : Page) (access : 
     → Explains (step s (Made v mode (accessed access p x))).answer (explanation_of s v.0 (mode_of mode) p.0 access)
 
 -- What an explanation says of level t.
-abbrev pub denial_in : Explanation → ℕ → Denial
-denial_in Explanation.Allowed t = Denial.Absent
-denial_in Explanation.Host t = Denial.Absent
-denial_in (Explanation.Levels r first second third) zero = Denial.Absent
+abbrev pub denial_in : Explanation → ℕ → Option Denial
+denial_in Explanation.Allowed t = None
+denial_in Explanation.Host t = None
+denial_in (Explanation.Levels r first second third) zero = None
 denial_in (Explanation.Levels r first second third) (suc zero) = first
 denial_in (Explanation.Levels r first second third) (suc (suc zero)) = second
 denial_in (Explanation.Levels r first second third) (suc (suc (suc zero))) = third
-denial_in (Explanation.Levels r first second third) (suc (suc (suc (suc t)))) = Denial.Absent
+denial_in (Explanation.Levels r first second third) (suc (suc (suc (suc t)))) = None
 
-abbrev pub is_denial : Denial → Bool
-is_denial Denial.Absent = false
-is_denial (Denial.By mask wanted mbec) = true
+abbrev pub is_denial : Option Denial → Bool
+is_denial None = false
+is_denial (Some denial) = true
 
 -- A level denies in the explanation exactly where it denies the access, and no denying level is left out.
 pub record Shows (s : State) (v : ℕ) (mode : Mode) (p : ℕ) (access : Access) (t : ℕ) : Type 0 where
@@ -66,9 +66,9 @@ pub record Fits (mode : Mode) (access : Access) (mask wanted : ℕ) (mbec : Bool
   pub lacks : mask / wanted % 2 ≡ 0
   pub needs : wanted ≡ 2 ^ needed mbec mode access
 
-abbrev pub FitsIn : Mode → Access → Denial → Type 0
-FitsIn mode access Denial.Absent = Unit
-FitsIn mode access (Denial.By mask wanted mbec) = Fits mode access mask wanted mbec
+abbrev pub FitsIn : Mode → Access → Option Denial → Type 0
+FitsIn mode access None = Unit
+FitsIn mode access (Some denial) = Fits mode access denial.mask denial.wanted denial.mbec
 
 abbrev pub DenialsFit : Type 0
 DenialsFit = (s : State) (v : ℕ) (mode : Mode) (p : ℕ) (access : Access) (t : ℕ) → FitsIn mode access (denial_of s v mode p access t)

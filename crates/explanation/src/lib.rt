@@ -24,56 +24,47 @@ use partition::level::Levels;
 use partition::mask::{Masks, mask_at};
 use processor::record::{RECORD_WORDS, Record, active_of, enabled_set};
 
-// How a level stands to an access: it does not deny it; or it does, and then its mask of the page, the bit of a mask that the access wants of
-// it, as a number (1, 2, 4 or 8), and whether MBEC counted.
+// How a level denies an access: its mask of the page, the bit of a mask that the access wants of it, as a number (1, 2, 4 or 8), and
+// whether MBEC counted.
 #[derive(Clone, Copy)]
-pub enum Denial {
-    Absent,
-    By { mask: u64, wanted: u64, mbec: bool },
+pub struct Denial {
+    pub mask: u64,
+    pub wanted: u64,
+    pub mbec: bool,
 }
 
-// Who receives the intercept of an access that levels deny: the lowest of them that is enabled on the processor, or nobody.
-#[derive(Clone, Copy)]
-pub enum Receiver {
-    Nobody,
-    By(Level),
-}
-
-// Why an access is allowed or denied. The host is named only where no level denies. The three denials are those of levels 1, 2 and 3.
+// Why an access is allowed or denied. The host is named only where no level denies. The receiver of the intercept is the lowest denying
+// level that is enabled on the processor, if one is. The three denials are those of levels 1, 2 and 3, of each that denies.
 #[derive(Clone, Copy)]
 pub enum Explanation {
     Allowed,
     Host,
     Levels {
-        receiver: Receiver,
-        first: Denial,
-        second: Denial,
-        third: Denial,
+        receiver: Option<Level>,
+        first: Option<Denial>,
+        second: Option<Denial>,
+        third: Option<Denial>,
     },
 }
 
-// The lowest of the levels that deny which is enabled on the processor, or nobody.
-fn receiver_of(shape: Shape, vp: &Record, denying: LevelSet) -> Receiver
+// The lowest of the levels that deny which is enabled on the processor, if one is.
+fn receiver_of(shape: Shape, vp: &Record, denying: LevelSet) -> Option<Level>
     ensures { result
         ≡ receiver_by (lowest_in denying.0 (bits 4 (λ l. enabled_at shape (vp_of vp.now) l))) }
 {
     let enabled = enabled_set(shape, vp);
     let level = lowest(denying, enabled);
     if level.0 < NO_LEVEL {
-        return Receiver::By(level);
+        return Some(level);
     }
-    Receiver::Nobody
+    None
 }
 
 // Is it a fetch?
 fn is_fetch(access: Access) -> bool
     ensures { result ≡ is_fetch access }
 {
-    match access {
-        Access::Read => false,
-        Access::Write => false,
-        Access::Fetch => true,
-    }
+    matches!(access, Access::Fetch)
 }
 
 // The bit of a mask that an access wants, as a number.
@@ -91,23 +82,23 @@ fn denial_of(
     mbecs: LevelSet,
     attempt: Attempt,
     level: Level,
-) -> Denial
+) -> Option<Denial>
     ensures { result ≡ denial_by (bit denying.0 level.0)
         (mask_in setup.shape setup.pages masks.now level.0 attempt.page.0)
         (bit mbecs.0 level.0) attempt.mode attempt.access }
 {
     if !in_set(denying, level) {
-        return Denial::Absent;
+        return None;
     }
     let mode = attempt.mode;
     let access = attempt.access;
     let counts = in_set(mbecs, level);
     let fetch = is_fetch(access);
-    Denial::By {
+    Some(Denial {
         mask: mask_at(setup.shape, setup.pages, masks, level, attempt.page),
         wanted: wanted(counts, mode, access),
         mbec: fetch & counts,
-    }
+    })
 }
 
 // Where no level denies: the host does, or the access is allowed.

@@ -34,8 +34,8 @@ pub read_short : ReadShort
 read_short input r h = short-text r.state (only-records input r h).formed
 
 pub used-short : UsedShort
-used-short input r e used a =
-    omega (arith, used a, read_short input (record { state = state_in r; rest = lines (drop r.used input) }) (sym e ∙ rw a))
+used-short input r e used =
+    omega (arith, used, read_short input (record { state = state_in r; rest = lines (drop r.used input) }) (sym e))
 
 -- The bytes begin with `front`.
 pub record Begins (bytes front : List ℕ) : Type 0 where

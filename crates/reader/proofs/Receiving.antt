@@ -25,13 +25,9 @@ use Rattle.records.specs.Reading.{Passed, first_record, from_first, passed_on}
 use Rattle.records.specs.RecordTexts.{ended, lines_at, record_lines, records_text}
 use Rattle.records.specs.Values.{setup_at, value_at}
 use Rattle.records.proofs.SameBytes.{only-records}
-use Rattle.reader.specs.Received.{Few, Passes, passed_in, state_in, wanted}
+use Rattle.reader.specs.Received.{Few, Passes, Placed, Used, passed_in, state_in, wanted}
 use Rattle.reader.specs.declared.Received.{Received}
 use Rattle.reader.proofs.Cut.{lines_next, passes-both, passes-one}
-
--- Nothing was accepted.
-pub refused-passed : (r : Received) (input : List ℕ) {w : Option Passed} → r.accepted ≡ false → w ≡ None → passed_in r input ≡ w
-refused-passed r input h e = rw h (sym e)
 
 pub empty-none : (input : List ℕ) → length input ≡ 0 → passed_on (lines input) ≡ None
 unfolding passed_on lines lines_in
@@ -77,15 +73,15 @@ unfolding record_lines
 records-count s = omega (arith, lines-count (value_at s) (places (setup_at s)))
 
 -- The bytes used are the text of the records, but for a last line feed that is not there.
-pub used-is : (input : List ℕ) (r : Received) (c : Setup) (next : ℕ) → passed_in r input ≡ passed_on (lines input) → Passes input 1 next
-    → r.accepted ≡ true → (r.setup ≡ c) × (next ≤ r.used) × Passes (drop next input) (length (places c)) (r.used - next)
+pub used-is : (input : List ℕ) (r : Received) (c : Setup) (next : ℕ) → passed_in (Some r) input ≡ passed_on (lines input) → Passes input 1 next
+    → (r.setup ≡ c) × (next ≤ r.used) × Passes (drop next input) (length (places c)) (r.used - next)
     → r.used ≡ min (length (records_text (state_in r))) (length input)
 unfolding machine_of records_text
-used-is input r c next e one a (same, low, more) =
+used-is input r c next e one (same, low, more) =
     let s = state_in r in
     let far : next + (r.used - next) ≡ r.used = omega arith in
     let all : Passes input (1 + length (places c)) r.used = rw far at (passes-both one more) in
-    let gave : passed_on (lines input) ≡ Some (record { state = s; rest = lines (drop r.used input) }) = sym e ∙ rw a in
+    let gave : passed_on (lines input) ≡ Some (record { state = s; rest = lines (drop r.used input) }) = sym e in
     let exact = only-records input (record { state = s; rest = lines (drop r.used input) }) gave in
     let count : length (record_lines s) ≡ 1 + length (places c) = records-count s ∙ ap (λ (c : Setup). 1 + length (places c)) same in
     let these : all.passed ≡ record_lines s =
@@ -93,3 +89,9 @@ used-is input r c next e one a (same, low, more) =
     ∙ ap (take (1 + length (places c))) (sym all.split ∙ exact.these)
     ∙ take_at (record_lines s) (lines (drop r.used input)) (1 + length (places c)) count in
     all.place ∙ ap (λ (ls : List (List ℕ)). min (length (ended ls)) (length input)) these
+
+-- What was received is what the records say, and how many bytes they take.
+pub used-received : (input : List ℕ) (r : Option Received) (c : Setup) (next : ℕ) → passed_in r input ≡ passed_on (lines input) → Passes input 1 next
+    → Placed c next r input → Used r input
+used-received input None c next e one placed = tt
+used-received input (Some r) c next e one placed = used-is input r c next e one placed

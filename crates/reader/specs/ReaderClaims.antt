@@ -13,7 +13,7 @@ ReadShort = (input : List ℕ) (r : Passed) → passed_on (lines input) ≡ Some
 
 -- So do those that `read` accepts: a program that reads 64 KB has them whole.
 abbrev pub UsedShort : Type 0
-UsedShort = (input : List ℕ) (r : Received) → passed_in r input ≡ passed_on (lines input) → Used r input → r.accepted ≡ true → r.used < longest_text
+UsedShort = (input : List ℕ) (r : Received) → passed_in (Some r) input ≡ passed_on (lines input) → Used (Some r) input → r.used < longest_text
 
 -- What was read of an input, where more bytes follow it: the same state, and the bytes behind its records with those that follow.
 abbrev pub goes_on : List ℕ → List ℕ → Option Passed → Option Passed

@@ -1,5 +1,5 @@
 -- What reading gives (02, request 2): the machine in its parts and how many bytes its records take, or nothing. Assumes nothing.
-use Rattle.std.specs.Prelude.{Bool, true, cond, List, [], ◌∷◌, ◌++◌, ◌≡◌, ℕ, ◌-◌, ◌≤◌, min, ltb, drop, length, replicate, set, take, None, Option, Some}
+use Rattle.std.specs.Prelude.{Bool, List, [], ◌∷◌, ◌++◌, ◌≡◌, ℕ, ◌-◌, ◌≤◌, min, ltb, drop, length, replicate, set, take, None, Option, Some}
 use Rattle.model.specs.declared.machine.Setup.{Setup}
 use Rattle.model.specs.State.{State, top}
 use Rattle.processor.specs.Record.{record_words}
@@ -18,14 +18,16 @@ state_of setup m = lent setup m.levels m.masks m.vps (take setup.pages m.words)
 
 -- The state that was read, and what was read: it, and the lines that follow the bytes used.
 abbrev pub state_in : Received → State
-state_in r = state_of r.setup (parts_of r.levels r.masks (r.first ∷ r.second ∷ r.third ∷ r.fourth ∷ []) r.words)
+state_in r = state_of r.setup (parts_of r.levels r.masks r.vps r.words)
 
-abbrev pub passed_in : Received → List ℕ → Option Passed
-passed_in r input = cond r.accepted (Some (record { state = state_in r; rest = lines (drop r.used input) })) None
+abbrev pub passed_in : Option Received → List ℕ → Option Passed
+passed_in None input = None
+passed_in (Some r) input = Some (record { state = state_in r; rest = lines (drop r.used input) })
 
 -- The bytes that the records take, with the line feed of the last if it has one.
-abbrev pub Used : Received → List ℕ → Type 0
-Used r input = r.accepted ≡ true → r.used ≡ min (length (records_text (state_in r))) (length input)
+abbrev pub Used : Option Received → List ℕ → Type 0
+Used None input = Unit {0}
+Used (Some r) input = r.used ≡ min (length (records_text (state_in r))) (length input)
 
 -- The sizes are in range.
 abbrev pub Few : Setup → Type 0
@@ -62,6 +64,6 @@ Taken setup input from (Some end) m =
     × (from ≤ end) × (end ≤ length input) × Passes (drop from input) (length (places setup)) (end - from)
 
 -- Where accepted records after the first end.
-abbrev pub Placed : Setup → ℕ → Received → List ℕ → Type 0
-Placed setup from r input =
-    r.accepted ≡ true → (r.setup ≡ setup) × (from ≤ r.used) × Passes (drop from input) (length (places setup)) (r.used - from)
+abbrev pub Placed : Setup → ℕ → Option Received → List ℕ → Type 0
+Placed setup from None input = Unit {0}
+Placed setup from (Some r) input = (r.setup ≡ setup) × (from ≤ r.used) × Passes (drop from input) (length (places setup)) (r.used - from)

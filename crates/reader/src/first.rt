@@ -4,7 +4,7 @@ ghost use Rattle.records.specs.Reading.{first_record, from_first};
 ghost use Rattle.script.specs.LineForms.{fields};
 
 use model::answer::Refusal;
-use script::Start;
+use model::machine::FirstLine;
 
 // The fields of a first record.
 const FIRST_FIELDS: usize = 7;
@@ -25,11 +25,11 @@ fn field_count(line: &[u8]) -> usize
 }
 
 // What the first record says.
-pub(crate) fn first_record(line: &[u8]) -> Start
+pub(crate) fn first_record(line: &[u8]) -> Result<FirstLine, Refusal>
     ensures { (rest : List (List ℕ)) → from_first result rest ≡ from_first (first_record line.now) rest }
 {
     if field_count(line) != FIRST_FIELDS {
-        return Start::Malformed(Refusal::WrongFieldCount);
+        return Err(Refusal::WrongFieldCount);
     }
     script::parse_first(line)
 }

@@ -1,21 +1,18 @@
 // A machine read from its records (02, request 2). A script without first line may follow them.
 #![tactic(auto)]
 
-ghost use Rattle.std.specs.Prelude.{false, ◌≡◌, ◌≤◌, length};
+ghost use Rattle.std.specs.Prelude.{◌≡◌, ◌≤◌, length};
 ghost use Rattle.records.specs.Reading.{passed_on};
 ghost use Rattle.reader.specs.Received.{Few, Placed, Used, blank_record, blank_rows, passed_in, wanted};
 ghost use Rattle.script.specs.Records.{lines};
 
 use crate::first::first_record;
-use crate::line::Past;
 use crate::places::{after_line, read_places};
 use chunk::{at_most, line_end};
-use model::machine::{Setup, Shape};
-use model::quantity::Level;
+use model::machine::Setup;
 use partition::level::Levels;
 use partition::mask::Masks;
 use processor::record::{ENABLED, RECORD_WORDS, Record};
-use script::Start;
 use state::fresh::{admissible, setup_of};
 use state::well_formed_state::well_formed;
 
@@ -24,20 +21,15 @@ mod line; // what a line says of a place
 mod places; // the records after the first
 mod store; // a quantity stored at a place
 
-// What reading gives: whether the records were accepted, how many bytes they take, and the machine in its parts: what stays the same,
-// the words of the levels, the masks, the records of four processors, and the words of the pages, as many as there are. Where they were
-// not accepted there is no machine: what the other fields hold then is left open, and so are the words beyond the pages.
+// What reading gives: how many bytes the records take, and the machine in its parts: what stays the same, the words of the levels, the
+// masks, the records of four processors, and the words of the pages, as many as there are. The words beyond the pages are left open.
 #[derive(Clone, Copy)]
 pub struct Received {
-    pub accepted: bool,
     pub used: usize,
     pub setup: Setup,
     pub levels: Levels,
     pub masks: Masks,
-    pub first: Record,
-    pub second: Record,
-    pub third: Record,
-    pub fourth: Record,
+    pub vps: [Record; 4],
     pub words: [u64; 64],
 }
 
@@ -55,45 +47,16 @@ fn blank_record(on: bool) -> Record
     words
 }
 
-// Nothing was accepted.
-fn refused() -> Received
-    ensures { result.accepted ≡ false }
-{
-    let shape = Shape {
-        max_level: Level(0),
-        dr6_shared: false,
-        smep: false,
-    };
-    let setup = Setup {
-        processors: 0,
-        pages: 0,
-        host_mask: 0,
-        shape,
-    };
-    let record = [0; RECORD_WORDS];
-    Received {
-        accepted: false,
-        used: 0,
-        setup,
-        levels: [0; 6],
-        masks: [0; 256],
-        first: record,
-        second: record,
-        third: record,
-        fourth: record,
-        words: [0; 64],
-    }
-}
-
 // The records of four processors before any quantity is stored.
 fn blank_records(processors: u64) -> [Record; 4]
     ensures { result ≡ blank_rows processors }
 {
-    let first = blank_record(0 < processors);
-    let second = blank_record(1 < processors);
-    let third = blank_record(2 < processors);
-    let fourth = blank_record(3 < processors);
-    [first, second, third, fourth]
+    [
+        blank_record(0 < processors),
+        blank_record(1 < processors),
+        blank_record(2 < processors),
+        blank_record(3 < processors),
+    ]
 }
 
 // How many words of the array are lent: as many as there are pages.
@@ -106,8 +69,8 @@ fn lent_words(words: &[u64; 64], pages: u64) -> usize
     at_most(pages as usize, all.len())
 }
 
-// The machine that the records from `from` on say, which must be well formed.
-fn receive(input: &[u8], from: usize, setup: Setup) -> Received
+// The machine that the records from `from` on say, if it is well formed.
+fn receive(input: &[u8], from: usize, setup: Setup) -> Option<Received>
     requires from_in_bounds { from ≤ length input.now }
     requires few { Few setup }
     ensures passed { passed_in result input.now ≡ wanted setup input.now from }
@@ -117,7 +80,7 @@ fn receive(input: &[u8], from: usize, setup: Setup) -> Received
     let mut masks: Masks = [0; 256];
     let mut vps = blank_records(setup.processors);
     let mut words = [0u64; 64];
-    let Past::At(used) = read_places(
+    let used = read_places(
         input,
         from,
         setup,
@@ -125,46 +88,36 @@ fn receive(input: &[u8], from: usize, setup: Setup) -> Received
         &mut masks,
         &mut vps,
         &mut words,
-    ) else {
-        return refused();
-    };
+    )?;
     let pages = lent_words(&words, setup.pages);
     if !well_formed(setup, &levels, &masks, &vps, &words[..pages]) {
-        return refused();
+        return None;
     }
-    let first = vps[0];
-    let second = vps[1];
-    let third = vps[2];
-    let fourth = vps[3];
-    Received {
-        accepted: true,
+    Some(Received {
         used,
         setup,
         levels,
         masks,
-        first,
-        second,
-        third,
-        fourth,
+        vps,
         words,
-    }
+    })
 }
 
 // Reads a machine from the records that the input begins with: the state and the lines after them are those of `passed_on`, or nothing is
 // accepted.
-pub fn read(input: &[u8]) -> Received
+pub fn read(input: &[u8]) -> Option<Received>
     ensures passed { passed_in result input.now ≡ passed_on (lines input.now) }
     ensures used { Used result input.now }
 {
     if input.len() == 0 {
-        return refused();
+        return None;
     }
     let end = line_end(input, 0);
-    let Start::First(first) = first_record(&input[..end]) else {
-        return refused();
+    let Ok(first) = first_record(&input[..end]) else {
+        return None;
     };
     if !admissible(first) {
-        return refused();
+        return None;
     }
     receive(input, after_line(input, end), setup_of(first))
 }

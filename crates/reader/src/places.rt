@@ -3,15 +3,13 @@ ghost use Rattle.std.specs.Prelude.{◌≡◌, min, ◌+◌, ◌≤◌, length};
 ghost use Rattle.reader.specs.Received.{Few, Taken, blank_parts};
 ghost use Rattle.reader.specs.Slots.{parts_of};
 
-use crate::line::{Past, line_value};
+use crate::line::line_value;
 use crate::store::store;
 use chunk::line_end;
-use decimal::Number;
 use model::machine::Setup;
 use partition::level::Levels;
 use partition::mask::Masks;
 use processor::record::Record;
-use records::place::Next;
 use records::walk;
 
 // The place after a line that ends at `end`, and after its line feed if it has one.
@@ -33,7 +31,7 @@ pub(crate) fn read_places(
     masks: &mut Masks,
     vps: &mut [Record; 4],
     words: &mut [u64; 64],
-) -> Past
+) -> Option<usize>
     requires from_in_bounds { from ≤ length input.now }
     requires few { Few setup }
     requires words_value { parts_of levels.old masks.old vps.old words.old ≡ blank_parts setup }
@@ -43,16 +41,14 @@ pub(crate) fn read_places(
     let mut at = from;
     let mut due = walk::first(setup);
     loop {
-        let Next::At(place) = due else {
-            return Past::At(at);
+        let Some(place) = due else {
+            return Some(at);
         };
         if input.len() <= at {
-            return Past::Nothing;
+            return None;
         }
         let end = line_end(input, at);
-        let Number::Value(value) = line_value(place, &input[at..end]) else {
-            return Past::Nothing;
-        };
+        let value = line_value(place, &input[at..end])?;
         store(levels, masks, vps, words, place, value);
         at = after_line(input, end);
         due = walk::next(setup, place);

@@ -75,13 +75,8 @@ fn write_front(out: &mut [u8], at: usize, place: Place) -> usize
     ensures value { result ≡ at + length (front_text place) }
     ensures out_after { out.new ≡ sets out.old at (front_text place) }
 {
-    let word = word_of(place);
-    let bytes = word.0;
-    let size = word.1;
     let indices = indices_of(place);
-    let numbers = indices.numbers;
-    let count = indices.count;
-    write_head(out, at, &bytes[..size], &numbers[..count])
+    write_head(out, at, word_of(place), &indices.numbers[..indices.count])
 }
 
 // Writes the record of a place with the quantity `value`.

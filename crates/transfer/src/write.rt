@@ -13,7 +13,6 @@ use model::machine::Setup;
 use partition::level::Levels;
 use partition::mask::Masks;
 use processor::record::Record;
-use records::place::Next;
 use records::walk;
 use state::well_formed_state::well_formed;
 
@@ -41,7 +40,7 @@ fn write_places(
     let mut at = start;
     let mut due = walk::first(setup);
     loop {
-        let Next::At(place) = due else {
+        let Some(place) = due else {
             return at;
         };
         let value = quantity(setup, levels, masks, vps, words, place);

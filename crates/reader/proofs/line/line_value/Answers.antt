@@ -22,22 +22,23 @@ number : (line : List ℕ) (p : Place) (end : ℕ) (n : Option ℕ) → After li
 number line p end n h e =
     e ∙ ap read_decimal (take_all (length line - end) (drop end line) (omega (arith, length-drop end line))) ∙ sym (behind-front line p end h)
 
-pub returns-in_default : goal.returns-in_default
+pub returns-in_err-end : goal.returns-in_err-end
 unfolding line_value
-returns-in_default c =
+returns-in_err-end c =
     let a = c.args in
-    sym (ap (taken (is_flag a.place)) (no_front a.line.now a.place (rw c.in_default.is at c.past_front.ensures)))
+    rw c.from_residual.ensures
+    (sym (ap (taken (is_flag a.place)) (no_front a.line.now a.place (rw c.in_err-end.was at c.past_front.ensures))))
 
 pub returns-then-is_flag : goal.returns-then-is_flag
 unfolding line_value
 returns-then-is_flag c =
     let a = c.args in
     let yes : is_flag a.place ≡ true = sym c.is_flag.ensures ∙ c.if-is_flag.true in
-    rw (c.flag.ensures, number a.line.now a.place c.in-At.end c.read-number.result (rw c.in-At.is at c.past_front.ensures) c.read-number.ensures, yes)
+    rw (c.flag.ensures, number a.line.now a.place c.in_ok-end.end c.read-number.result (rw c.in_ok-end.was at c.past_front.ensures) c.read-number.ensures, yes)
 
 pub returns : goal.returns
 unfolding line_value
 returns c =
     let a = c.args in
     let no : is_flag a.place ≡ false = sym c.is_flag.ensures ∙ c.if-is_flag.false in
-    rw (number a.line.now a.place c.in-At.end c.read-number.result (rw c.in-At.is at c.past_front.ensures) c.read-number.ensures, no)
+    rw (number a.line.now a.place c.in_ok-end.end c.read-number.result (rw c.in_ok-end.was at c.past_front.ensures) c.read-number.ensures, no)

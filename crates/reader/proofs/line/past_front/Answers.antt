@@ -6,11 +6,12 @@ use Rattle.script.specs.LineForms.{tab}
 use Rattle.reader.proofs.Beginnings.{both, none_first, room-digits}
 use Rattle.reader.proofs.line.past_front.Goals as goal
 
-pub returns-in_default : goal.returns-in_default
-returns-in_default c =
+pub returns-in_err-next : goal.returns-in_err-next
+returns-in_err-next c =
     let a = c.args in
-    let said = rw (c.word_of-word.ensures.text, c.in_default.is) at c.past_word.ensures in
-    rw (front-parts a.place) at (none_first a.line.now 0 ((head_of a.place).word ++ tab ∷ []) (closed (head_of a.place).indices) said)
+    let said = rw (c.word_of.ensures, c.in_err-next.was) at c.past_word.ensures in
+    rw c.from_residual.ensures
+    (rw (front-parts a.place) at (none_first a.line.now 0 ((head_of a.place).word ++ tab ∷ []) (closed (head_of a.place).indices) said))
 
 pub past_indices-requires-clause-two_digits : goal.past_indices-requires-clause-two_digits
 past_indices-requires-clause-two_digits c = rw c.indices_of-indices.ensures.numbers (room-digits c.args.place c.requires)
@@ -18,7 +19,7 @@ past_indices-requires-clause-two_digits c = rw c.indices_of-indices.ensures.numb
 pub returns : goal.returns
 returns c =
     let a = c.args in
-    let said = rw (c.word_of-word.ensures.text, c.in-At.is) at c.past_word.ensures in
+    let said = rw (c.word_of.ensures, c.in_ok-next.was) at c.past_word.ensures in
     rw (front-parts a.place) at
     (both a.line.now 0 ((head_of a.place).word ++ tab ∷ []) (closed (head_of a.place).indices) c.past_indices.result said
     (rw c.indices_of-indices.ensures.numbers at c.past_indices.ensures))

@@ -10,12 +10,13 @@ pub past_index-requires : goal.past_index-requires
 past_index-requires c =
     two-digits-at c.args.indices.now c.loop-i.i c.requires.two_digits c.loop-i-test.true
 
-pub returns-in_default : goal.returns-in_default
-returns-in_default c =
+pub returns-in_err-next : goal.returns-in_err-next
+returns-in_err-next c =
     let a = c.args in
-    behind-other a.line.now a.at a.indices.now c.loop-i.invariant c.loop-i-test.true (rw c.in_default.is at c.past_index.ensures)
+    rw c.from_residual.ensures
+    (behind-other a.line.now a.at a.indices.now c.loop-i.invariant c.loop-i-test.true (rw c.in_err-next.was at c.past_index.ensures))
 
 pub loop-i-preserved : goal.loop-i-preserved
 loop-i-preserved c =
     let a = c.args in
-    behind-next a.line.now a.at a.indices.now c.loop-i.invariant c.loop-i-test.true (rw c.in-At.is at c.past_index.ensures)
+    behind-next a.line.now a.at a.indices.now c.loop-i.invariant c.loop-i-test.true (rw c.in_ok-next.was at c.past_index.ensures)

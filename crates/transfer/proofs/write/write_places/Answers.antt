@@ -36,25 +36,25 @@ unfolding machine_of
 quantity-value-requires c =
     let S : State = lent c.args.setup c.args.levels.now c.args.masks.now c.args.vps.now c.args.words.now in
     let count : length c.args.words.now ≡ c.args.setup.pages = words-length (S) c.requires.words_value in
-    let due-of : Due c.args.setup (value_at (S)) c.args.out.now c.args.start c.loop-due.out c.loop-due.at c.in-At.place = left_at c.args.setup (value_at (S)) c.args.out.now c.args.start c.loop-due.out c.loop-due.at c.in-At.place (rw c.in-At.is at c.loop-due.invariant) in
+    let due-of : Due c.args.setup (value_at (S)) c.args.out.now c.args.start c.loop-due.out c.loop-due.at c.in-Some.place = left_at c.args.setup (value_at (S)) c.args.out.now c.args.start c.loop-due.out c.loop-due.at c.in-Some.place (rw c.in-Some.is at c.loop-due.invariant) in
     ((due-of).holds, count)
 
 pub write_record-at-requires : goal.write_record-at-requires
 unfolding places_text machine_of
 write_record-at-requires c =
     let S : State = lent c.args.setup c.args.levels.now c.args.masks.now c.args.vps.now c.args.words.now in
-    let due-of : Due c.args.setup (value_at (S)) c.args.out.now c.args.start c.loop-due.out c.loop-due.at c.in-At.place = left_at c.args.setup (value_at (S)) c.args.out.now c.args.start c.loop-due.out c.loop-due.at c.in-At.place (rw c.in-At.is at c.loop-due.invariant) in
+    let due-of : Due c.args.setup (value_at (S)) c.args.out.now c.args.start c.loop-due.out c.loop-due.at c.in-Some.place = left_at c.args.setup (value_at (S)) c.args.out.now c.args.start c.loop-due.out c.loop-due.at c.in-Some.place (rw c.in-Some.is at c.loop-due.invariant) in
     rw c.quantity-value.ensures ((due-of).room c.requires.words_in_bounds)
 
 pub loop-due-smaller : goal.loop-due-smaller
 loop-due-smaller c =
     let S : State = lent c.args.setup c.args.levels.now c.args.masks.now c.args.vps.now c.args.words.now in
-    let due-of : Due c.args.setup (value_at (S)) c.args.out.now c.args.start c.loop-due.out c.loop-due.at c.in-At.place = left_at c.args.setup (value_at (S)) c.args.out.now c.args.start c.loop-due.out c.loop-due.at c.in-At.place (rw c.in-At.is at c.loop-due.invariant) in
+    let due-of : Due c.args.setup (value_at (S)) c.args.out.now c.args.start c.loop-due.out c.loop-due.at c.in-Some.place = left_at c.args.setup (value_at (S)) c.args.out.now c.args.start c.loop-due.out c.loop-due.at c.in-Some.place (rw c.in-Some.is at c.loop-due.invariant) in
     let d = due-of in
-    omega (arith, ap (due_rank c.args.setup) c.next-due.ensures, ap (due_rank c.args.setup) c.in-At.is, d.below, d.rises)
+    omega (arith, ap (due_rank c.args.setup) c.next-due.ensures, ap (due_rank c.args.setup) c.in-Some.is, d.below, d.rises)
 
 pub loop-due-preserved : goal.loop-due-preserved
 loop-due-preserved c =
     let S : State = lent c.args.setup c.args.levels.now c.args.masks.now c.args.vps.now c.args.words.now in
-    let due-of : Due c.args.setup (value_at (S)) c.args.out.now c.args.start c.loop-due.out c.loop-due.at c.in-At.place = left_at c.args.setup (value_at (S)) c.args.out.now c.args.start c.loop-due.out c.loop-due.at c.in-At.place (rw c.in-At.is at c.loop-due.invariant) in
+    let due-of : Due c.args.setup (value_at (S)) c.args.out.now c.args.start c.loop-due.out c.loop-due.at c.in-Some.place = left_at c.args.setup (value_at (S)) c.args.out.now c.args.start c.loop-due.out c.loop-due.at c.in-Some.place (rw c.in-Some.is at c.loop-due.invariant) in
     rw c.next-due.ensures ((due-of).goes c.write_record-at.result c.write_record-at.new.out (rw c.quantity-value.ensures at c.write_record-at.ensures))
