@@ -25,7 +25,7 @@ use Rattle.script.specs.LineForms.{tab}
 use Rattle.script.specs.ListingLine.{line_feed}
 use Rattle.script.specs.Texts.{parted, together}
 use Rattle.sheet.proofs.SheetLengths.{line-length}
-use Rattle.sheet.specs.Sheets.{Denial, Absent, By, Explanation, Allowed, Host, Levels, group, kind_field, receiver_field, sheet_fields, sheet_line, sheet_text}
+use Rattle.sheet.specs.Sheets.{Denial, Explanation, Allowed, Host, Levels, group, kind_field, receiver_field, sheet_fields, sheet_line, sheet_text}
 use Rattle.model.specs.declared.quantity.Level.{Level}
 
 -- No tab and no line feed.
@@ -46,9 +46,9 @@ unfolding receiver_field
 plain-receiver None = refl
 plain-receiver (Some level) = plain-number level.0
 
-plain-group : (level : ℕ) (d : Denial) → every plain (group level d) ≡ true
+plain-group : (level : ℕ) (d : Option Denial) → every plain (group level d) ≡ true
 unfolding group kind_field
-plain-group level Absent = refl
+plain-group level None = refl
 plain-group level (By mask wanted true) = rw (plain-number level, plain-number mask, plain-number wanted)
 plain-group level (By mask wanted false) = rw (plain-number level, plain-number mask, plain-number wanted)
 

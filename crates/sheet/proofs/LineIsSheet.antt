@@ -1,5 +1,5 @@
 -- The theorems that the line of an explanation has the form of a sheet, and is right. Assumes nothing.
-use Rattle.std.specs.Prelude.{None, Some, Option}
+use Rattle.std.specs.Prelude.{None, Some, Option, is_some}
 use mathlib.Core.Bool.{Bool, true, false, ◌||◌}
 use mathlib.Core.List.{List, [], ◌∷◌, ◌++◌, append-nil}
 use mathlib.Core.Path.{◌≡◌, refl, ap}
@@ -13,8 +13,8 @@ use Rattle.script.proofs.Same.{differ}
 use Rattle.script.specs.Bytes.{bytes, same}
 use Rattle.script.specs.LineForms.{longest_line}
 use Rattle.sheet.specs.SheetClaims.{DenialFits, Fits, LineIsSheet, ReceiverFits, RightSheet, denies, names}
-use Rattle.sheet.specs.SheetForms.{good_form, is_alone, is_empty, is_groups, is_kind, is_number, is_receiver, is_sheet, is_value}
-use Rattle.sheet.specs.Sheets.{Denial, Absent, By, Explanation, Allowed, Host, Levels, group, kind_field, receiver_field, sheet_fields, sheet_line}
+use Rattle.sheet.specs.SheetForms.{good_form, is_alone, is_empty, is_groups, is_kind, is_number, is_receiver, is_sheet}
+use Rattle.sheet.specs.Sheets.{Denial, Explanation, Allowed, Host, Levels, group, kind_field, receiver_field, sheet_fields, sheet_line}
 use Rattle.sheet.specs.Verdicts.{verdict, verdict_lines}
 use Rattle.sheet.proofs.FieldPassing.{rest_good}
 use Rattle.sheet.proofs.SheetLengths.{line-length}
@@ -25,7 +25,7 @@ use Rattle.model.specs.declared.quantity.Level.{Level}
 -- Each field is what stands in its place.
 number-good : (n : ℕ) → n < 2 ^ 64 → is_number (decimal n) ≡ true
 unfolding is_number
-number-good n h = ap is_value (round_trip n h)
+number-good n h = ap is_some (round_trip n h)
 
 kind-good : (mbec : Bool) → is_kind (kind_field mbec) ≡ true
 unfolding is_kind kind_field same
@@ -42,19 +42,19 @@ receiver-good (Some level) h = go (same (decimal level.0) (bytes "none"))
     go false = number-good level.0 h
 
 -- Groups in front of groups or of nothing.
-rest-good : (level : ℕ) (d : Denial) (more : List (List ℕ)) → level < 2 ^ 64 → DenialFits d → rest_good more ≡ true → rest_good (group level d ++ more) ≡ true
+rest-good : (level : ℕ) (d : Option Denial) (more : List (List ℕ)) → level < 2 ^ 64 → DenialFits d → rest_good more ≡ true → rest_good (group level d ++ more) ≡ true
 unfolding group is_groups
-rest-good level Absent more l h r = r
-rest-good level (By mask wanted mbec) more l h r =
-    rw (number-good level l, number-good mask h.0, number-good wanted h.1, kind-good mbec) r
+rest-good level None more l h r = r
+rest-good level (Some by) more l h r =
+    rw (number-good level l, number-good by.mask h.0, number-good by.wanted h.1, kind-good by.mbec) r
 
-some-group : (first second third : Denial) → (denies first || denies second || denies third) ≡ true
+some-group : (first second third : Option Denial) → (denies first || denies second || denies third) ≡ true
     → is_empty (group 1 first ++ (group 2 second ++ group 3 third)) ≡ false
 unfolding group
-some-group (By mask wanted mbec) second third h = refl
-some-group Absent (By mask wanted mbec) third h = refl
-some-group Absent Absent (By mask wanted mbec) h = refl
-some-group Absent Absent Absent h = differ h
+some-group (Some by) second third h = refl
+some-group None (Some by) third h = refl
+some-group None None (Some by) h = refl
+some-group None None None h = differ h
 
 groups-good : (more : List (List ℕ)) → is_empty more ≡ false → rest_good more ≡ true → is_groups more ≡ true
 groups-good more e r = rw e at r

@@ -12,7 +12,7 @@ use Rattle.script.specs.LineForms.{tab}
 use Rattle.script.specs.Texts.{parted}
 use Rattle.records.specs.RecordTexts.{ended}
 use Rattle.sheet.specs.SheetClaims.{ShortSheet}
-use Rattle.sheet.specs.Sheets.{Denial, Absent, By, Explanation, Allowed, Host, Levels, group, kind_field, receiver_field, sheet_fields, sheet_line, sheet_text}
+use Rattle.sheet.specs.Sheets.{Denial, Explanation, Allowed, Host, Levels, group, kind_field, receiver_field, sheet_fields, sheet_line, sheet_text}
 use Rattle.model.specs.declared.quantity.Level.{Level}
 
 -- Fields after fields.
@@ -23,7 +23,7 @@ parted-both (field ∷ left) right =
     ap (λ (more : List ℕ). tab ∷ field ++ more) (parted-both left right) ∙ ap (λ (more : List ℕ). tab ∷ more) (sym (append_assoc field (parted left) (parted right)))
 
 -- The line of levels that deny: the receiver, and the fields of each level.
-pub line-of-levels : (by : Option Level) (first second third : Denial)
+pub line-of-levels : (by : Option Level) (first second third : Option Denial)
     → sheet_line (Levels by first second third)
     ≡ ((receiver_field by ++ parted (group 1 first)) ++ parted (group 2 second)) ++ parted (group 3 third)
 unfolding sheet_line sheet_fields
@@ -32,10 +32,10 @@ line-of-levels by first second third =
     (simp append_assoc)
 
 -- The fields of a level that denies.
-pub group-text : (level mask wanted : ℕ) (mbec : Bool)
-    → parted (group level (By mask wanted mbec)) ≡ ((tab ∷ decimal level ++ (tab ∷ decimal mask)) ++ (tab ∷ decimal wanted)) ++ (tab ∷ kind_field mbec)
+pub group-text : (level : ℕ) (by : Denial)
+    → parted (group level (Some by)) ≡ ((tab ∷ decimal level ++ (tab ∷ decimal by.mask)) ++ (tab ∷ decimal by.wanted)) ++ (tab ∷ kind_field by.mbec)
 unfolding group parted
-group-text level mask wanted mbec = simp (append_assoc, append-nil)
+group-text level by = simp (append_assoc, append-nil)
 
 -- A receiver takes at most 20 bytes, and a level of one digit at most 50.
 pub receiver-length : (by : Option Level) → length (receiver_field by) ≤ 20
@@ -48,23 +48,23 @@ unfolding kind_field
 kind-length true = omega arith
 kind-length false = omega arith
 
-denial-length : (level mask wanted : ℕ) (mbec : Bool) → level < 10 → length (parted (group level (By mask wanted mbec))) ≤ 50
-denial-length level mask wanted mbec h =
+denial-length : (level : ℕ) (by : Denial) → level < 10 → length (parted (group level (Some by))) ≤ 50
+denial-length level by h =
     omega (
       arith,
-      simp length-append at (ap length (group-text level mask wanted mbec)),
+      simp length-append at (ap length (group-text level by)),
       few-digits 1 level (omega arith) (omega arith),
-      text-length mask,
-      text-length wanted,
-      kind-length mbec,
+      text-length by.mask,
+      text-length by.wanted,
+      kind-length by.mbec,
     )
 
-pub group-length : (level : ℕ) (d : Denial) → level < 10 → length (parted (group level d)) ≤ 50
+pub group-length : (level : ℕ) (d : Option Denial) → level < 10 → length (parted (group level d)) ≤ 50
 unfolding group parted
-group-length level Absent h = omega arith
-group-length level (By mask wanted mbec) h = denial-length level mask wanted mbec h
+group-length level None h = omega arith
+group-length level (Some by) h = denial-length level by h
 
-levels-length : (by : Option Level) (first second third : Denial) → length (sheet_line (Levels by first second third)) ≤ 170
+levels-length : (by : Option Level) (first second third : Option Denial) → length (sheet_line (Levels by first second third)) ≤ 170
 levels-length by first second third =
     omega (
       arith,

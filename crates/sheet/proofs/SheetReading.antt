@@ -17,7 +17,7 @@ use Rattle.script.proofs.Same.{every}
 use Rattle.script.specs.Bytes.{bytes}
 use Rattle.script.specs.LineForms.{fields}
 use Rattle.sheet.specs.SheetClaims.{DenialFits, Fits, OneReason, ReceiverFits}
-use Rattle.sheet.specs.Sheets.{Denial, Absent, By, Explanation, Allowed, Host, Levels, group, kind_field, receiver_field, sheet_fields, sheet_line}
+use Rattle.sheet.specs.Sheets.{Denial, Explanation, Allowed, Host, Levels, group, kind_field, receiver_field, sheet_fields, sheet_line}
 use Rattle.model.specs.declared.quantity.Level.{Level}
 
 -- No field has a tab.
@@ -34,11 +34,15 @@ unfolding receiver_field
 plain-receiver None = refl
 plain-receiver (Some level) = no-tab-number level.0
 
-plain-group : (level : ℕ) (d : Denial) → every no_tab (group level d) ≡ true
+plain-kind : (mbec : Bool) → no_tab (kind_field mbec) ≡ true
+unfolding kind_field
+plain-kind true = refl
+plain-kind false = refl
+
+plain-group : (level : ℕ) (d : Option Denial) → every no_tab (group level d) ≡ true
 unfolding group kind_field
-plain-group level Absent = refl
-plain-group level (By mask wanted true) = rw (no-tab-number level, no-tab-number mask, no-tab-number wanted)
-plain-group level (By mask wanted false) = rw (no-tab-number level, no-tab-number mask, no-tab-number wanted)
+plain-group level None = refl
+plain-group level (Some by) = rw (no-tab-number level, no-tab-number by.mask, no-tab-number by.wanted, plain-kind by.mbec)
 
 pub fields-of-line : (e : Explanation) → fields (sheet_line e) ≡ sheet_fields e
 unfolding sheet_line sheet_fields
@@ -79,36 +83,44 @@ first_of (field ∷ more) = field
 abbrev Without : ℕ → List (List ℕ) → Type 0
 Without level more = first_of more ≡ decimal level → ⊥
 
+-- Denials with the same parts are equal.
+abbrev denial : ℕ → ℕ → Bool → Denial
+denial mask wanted mbec = record { mask = mask; wanted = wanted; mbec = mbec }
+
+same-denial : (a b : Denial) → a.mask ≡ b.mask → a.wanted ≡ b.wanted → a.mbec ≡ b.mbec → a ≡ b
+same-denial a b e f g =
+    ap (λ (m : ℕ). denial m a.wanted a.mbec) e ∙ ap (λ (w : ℕ). denial b.mask w a.mbec) f ∙ ap (λ (k : Bool). denial b.mask b.wanted k) g
+
 -- What stands after the group of one level is found again.
-one-group : (level : ℕ) (a b : Denial) (more others : List (List ℕ)) → DenialFits a → DenialFits b → Without level more → Without level others
+one-group : (level : ℕ) (a b : Option Denial) (more others : List (List ℕ)) → DenialFits a → DenialFits b → Without level more → Without level others
     → group level a ++ more ≡ group level b ++ others → (a ≡ b) × (more ≡ others)
 unfolding group
-one-group level Absent Absent more others h k w v e = (refl, e)
-one-group level Absent (By mask wanted mbec) more others h k w v e = absurd (w (ap first_of e))
-one-group level (By mask wanted mbec) Absent more others h k w v e = absurd (v (sym (ap first_of e)))
-one-group level (By mask wanted mbec) (By mask₂ wanted₂ mbec₂) more others h k w v e =
-    let masks : decimal mask ≡ decimal mask₂ = cc in
-    let bits : decimal wanted ≡ decimal wanted₂ = cc in
-    let kinds : kind_field mbec ≡ kind_field mbec₂ = cc in
-    let e₁ = one_number mask mask₂ h.0 k.0 masks in
-    let e₂ = one_number wanted wanted₂ h.1 k.1 bits in
-    let e₃ = one-kind mbec mbec₂ kinds in
-    (cc, cc)
+one-group level None None more others h k w v e = (refl, e)
+one-group level None (Some by) more others h k w v e = absurd (w (ap first_of e))
+one-group level (Some by) None more others h k w v e = absurd (v (sym (ap first_of e)))
+one-group level (Some by) (Some other) more others h k w v e =
+    let masks : decimal by.mask ≡ decimal other.mask = cc in
+    let bits : decimal by.wanted ≡ decimal other.wanted = cc in
+    let kinds : kind_field by.mbec ≡ kind_field other.mbec = cc in
+    let e₁ = one_number by.mask other.mask h.0 k.0 masks in
+    let e₂ = one_number by.wanted other.wanted h.1 k.1 bits in
+    let e₃ = one-kind by.mbec other.mbec kinds in
+    (ap Some (same-denial by other e₁ e₂ e₃), cc)
 
 -- The groups of higher levels begin with other numbers.
 other-first : (a b : List ℕ) → a ≡ b → get_or a 0 0 ≡ get_or b 0 0
 other-first a b e = ap (λ (l : List ℕ). get_or l 0 0) e
 
-above-one : (second third : Denial) → Without 1 (group 2 second ++ group 3 third)
+above-one : (second third : Option Denial) → Without 1 (group 2 second ++ group 3 third)
 unfolding group digits_before digits_in
-above-one Absent Absent e = omega (arith, other-first [] (decimal 1) e)
-above-one Absent (By mask wanted mbec) e = omega (arith, other-first (decimal 3) (decimal 1) e)
-above-one (By mask wanted mbec) third e = omega (arith, other-first (decimal 2) (decimal 1) e)
+above-one None None e = omega (arith, other-first [] (decimal 1) e)
+above-one None (Some by) e = omega (arith, other-first (decimal 3) (decimal 1) e)
+above-one (Some by) third e = omega (arith, other-first (decimal 2) (decimal 1) e)
 
-above-two : (third : Denial) → Without 2 (group 3 third)
+above-two : (third : Option Denial) → Without 2 (group 3 third)
 unfolding group digits_before digits_in
-above-two Absent e = omega (arith, other-first [] (decimal 2) e)
-above-two (By mask wanted mbec) e = omega (arith, other-first (decimal 3) (decimal 2) e)
+above-two None e = omega (arith, other-first [] (decimal 2) e)
+above-two (Some by) e = omega (arith, other-first (decimal 3) (decimal 2) e)
 
 above-three : Without 3 []
 unfolding digits_before digits_in

@@ -13,7 +13,8 @@ use Rattle.script.specs.Bytes.{bytes, same}
 use Rattle.script.specs.LineForms.{fields}
 use Rattle.script.specs.Texts.{parted}
 use Rattle.sheet.specs.SheetForms.{good_form, is_alone, is_groups, is_kind, is_number, is_receiver, is_sheet}
-use Rattle.sheet.specs.Sheets.{Absent, By, Explanation, Levels, group, kind_field, receiver_field, sheet_fields, sheet_line}
+use Rattle.explanation.specs.Explained.{denied_by}
+use Rattle.sheet.specs.Sheets.{Explanation, Levels, group, kind_field, receiver_field, sheet_fields, sheet_line}
 use Rattle.sheet.specs.Verdicts.{same_fields, verdict, verdict_lines}
 
 -- Alone; a receiver or none, and groups, whatever their numbers are.
@@ -42,7 +43,7 @@ sheet-forms = (refl, refl, refl)
 
 -- Levels 1 and 3 deny a user fetch, level 1 with MBEC; level 3 alone is enabled there.
 unfoldable pub why : Explanation
-why = Levels (Some (level 3)) (By 7 8 true) Absent (By 3 4 false)
+why = Levels (Some (level 3)) (denied_by 7 8 true) None (denied_by 3 4 false)
 
 pub sample-line : sheet_line why ≡ bytes "3\t1\t7\t8\tmbec\t3\t3\t4\tplain"
 unfolding why sheet_line sheet_fields receiver_field group kind_field parted digits_before digits_in

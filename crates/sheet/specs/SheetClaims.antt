@@ -4,7 +4,7 @@ use Rattle.records.specs.RecordTexts.{ended}
 use Rattle.script.specs.Bytes.{bytes, same}
 use Rattle.script.specs.LineForms.{fields}
 use Rattle.sheet.specs.SheetForms.{good_form}
-use Rattle.sheet.specs.Sheets.{Denial, Absent, By, Explanation, Allowed, Host, Levels, longest_sheet, sheet_fields, sheet_line, sheet_text}
+use Rattle.sheet.specs.Sheets.{Denial, Explanation, Allowed, Host, Levels, longest_sheet, sheet_fields, sheet_line, sheet_text}
 use Rattle.sheet.specs.Verdicts.{longest_verdict, same_fields, verdict}
 use Rattle.model.specs.declared.quantity.Level.{Level}
 
@@ -13,9 +13,9 @@ abbrev pub ReceiverFits : Option Level → Type 0
 ReceiverFits None = Unit {0}
 ReceiverFits (Some level) = level.0 < 2 ^ 64
 
-abbrev pub DenialFits : Denial → Type 0
-DenialFits Absent = Unit {0}
-DenialFits (By mask wanted mbec) = (mask < 2 ^ 64) × (wanted < 2 ^ 64)
+abbrev pub DenialFits : Option Denial → Type 0
+DenialFits None = Unit {0}
+DenialFits (Some denial) = (denial.mask < 2 ^ 64) × (denial.wanted < 2 ^ 64)
 
 abbrev pub Fits : Explanation → Type 0
 Fits Allowed = Unit {0}
@@ -27,9 +27,9 @@ abbrev pub OneReason : Type 0
 OneReason = (a b : Explanation) → Fits a → Fits b → sheet_line a ≡ sheet_line b → a ≡ b
 
 -- An explanation that says that levels deny names one of them at least.
-abbrev pub denies : Denial → Bool
-denies Absent = false
-denies (By mask wanted mbec) = true
+abbrev pub denies : Option Denial → Bool
+denies None = false
+denies (Some denial) = true
 
 abbrev pub names : Explanation → Bool
 names Allowed = true

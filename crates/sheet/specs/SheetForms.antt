@@ -1,17 +1,13 @@
 -- The form of a sheet that was filled in by hand (02, request 3): `allowed`, `host`, or a number or `none` and at least one group of
 -- three numbers and `mbec` or `plain`. Which numbers they are does not matter to the form. Assumes nothing.
-use Rattle.std.specs.Prelude.{Bool, true, false, ◌&&◌, ◌||◌, List, [], ◌∷◌, ℕ, leb, length, None, Option, Some}
+use Rattle.std.specs.Prelude.{Bool, true, false, ◌&&◌, ◌||◌, List, [], ◌∷◌, ℕ, is_some, leb, length}
 use Rattle.decimal.specs.Read.{read_decimal}
 use Rattle.script.specs.Bytes.{bytes, same}
 use Rattle.script.specs.LineForms.{fields, longest_line}
 
 -- A number as 01 writes them.
-abbrev pub is_value : Option ℕ → Bool
-is_value (Some n) = true
-is_value None = false
-
 unfoldable pub is_number : List ℕ → Bool
-is_number field = is_value (read_decimal field)
+is_number field = is_some (read_decimal field)
 
 -- One word or the other.
 abbrev pub either : List ℕ → List ℕ → List ℕ → Bool

@@ -2,7 +2,6 @@
 use Rattle.std.specs.Prelude.{Bool, true, false, List, [], ◌∷◌, ◌++◌, ℕ, None, Option, Some}
 use Rattle.decimal.specs.Write.{decimal}
 pub use Rattle.explanation.specs.declared.Denial.{Denial}
-pub use Rattle.explanation.specs.declared.Denial.TheVariants.{Absent, By}
 pub use Rattle.explanation.specs.declared.Explanation.{Explanation}
 pub use Rattle.explanation.specs.declared.Explanation.TheVariants.{Allowed, Host, Levels}
 use Rattle.records.specs.RecordTexts.{ended}
@@ -21,9 +20,9 @@ kind_field true = bytes "mbec"
 kind_field false = bytes "plain"
 
 -- For a denying level its number, mask, wanted bit, and `mbec` or `plain`.
-unfoldable pub group : ℕ → Denial → List (List ℕ)
-group level Absent = []
-group level (By mask wanted mbec) = decimal level ∷ decimal mask ∷ decimal wanted ∷ kind_field mbec ∷ []
+unfoldable pub group : ℕ → Option Denial → List (List ℕ)
+group level None = []
+group level (Some denial) = decimal level ∷ decimal denial.mask ∷ decimal denial.wanted ∷ kind_field denial.mbec ∷ []
 
 -- `allowed`; or `host` where the host alone denies; or the receiver, then the denying levels, rising.
 unfoldable pub sheet_fields : Explanation → List (List ℕ)

@@ -5,15 +5,7 @@ ghost use Rattle.script.specs.NumberRows.{fields_after};
 ghost use Rattle.sheet.specs.PassedFields.{group_passed, is_part, passed};
 ghost use Rattle.sheet.specs.SheetForms.{either, good_form, is_alone, is_groups, is_kind, is_number, is_receiver};
 
-use decimal::Number;
 use script::search::find_byte;
-
-// Where fields end that are as they should be.
-#[derive(Clone, Copy)]
-pub enum Passed {
-    To(usize),
-    Nothing,
-}
 
 // Whether a field has the bytes of a word.
 pub(crate) fn is_word(field: &[u8], word: &[u8]) -> bool
@@ -57,13 +49,11 @@ fn is_kind(field: &[u8]) -> bool
 }
 
 // Whether a field is a number.
+#[tactic(auto, unfolding(crate::specs::SheetForms::is_number))]
 fn is_number(field: &[u8]) -> bool
     ensures { result ≡ is_number field.now }
 {
-    let Number::Value(_) = decimal::read(field) else {
-        return false;
-    };
-    true
+    decimal::read(field).is_some()
 }
 
 // Whether a field is a receiver.
@@ -87,33 +77,28 @@ fn is_part(field: &[u8], last: bool) -> bool
 }
 
 // The end of the field after the tab at `at`, where there is one and it is what stands there in a group.
-fn pass_part(sheet: &[u8], at: usize, last: bool) -> Passed
+fn pass_part(sheet: &[u8], at: usize, last: bool) -> Option<usize>
     ensures { result ≡ passed (is_part last) sheet.now at }
 {
     if sheet.len() <= at {
-        return Passed::Nothing;
+        return None;
     }
     let start = at + 1;
     let end = find_byte(sheet, start, b'\t');
     if is_part(&sheet[start..end], last) {
-        return Passed::To(end);
+        return Some(end);
     }
-    Passed::Nothing
+    None
 }
 
 // The end of the group after the tab at `at`, where there is one.
-fn pass_group(sheet: &[u8], at: usize) -> Passed
+#[tactic(auto, unfolding(crate::specs::PassedFields::group_passed))]
+fn pass_group(sheet: &[u8], at: usize) -> Option<usize>
     ensures { result ≡ group_passed sheet.now at }
 {
-    let Passed::To(after_level) = pass_part(sheet, at, false) else {
-        return Passed::Nothing;
-    };
-    let Passed::To(after_mask) = pass_part(sheet, after_level, false) else {
-        return Passed::Nothing;
-    };
-    let Passed::To(after_wanted) = pass_part(sheet, after_mask, false) else {
-        return Passed::Nothing;
-    };
+    let after_level = pass_part(sheet, at, false)?;
+    let after_mask = pass_part(sheet, after_level, false)?;
+    let after_wanted = pass_part(sheet, after_mask, false)?;
     pass_part(sheet, after_wanted, true)
 }
 
@@ -123,7 +108,7 @@ fn good_groups(sheet: &[u8], from: usize) -> bool
 {
     let mut at = from;
     loop {
-        let Passed::To(end) = pass_group(sheet, at) else {
+        let Some(end) = pass_group(sheet, at) else {
             return false;
         };
         if sheet.len() <= end {

@@ -6,7 +6,7 @@ ghost use Rattle.script.specs.LineForms.{tab};
 ghost use Rattle.script.specs.Texts.{parted};
 ghost use Rattle.sheet.specs.Sheets.{group, kind_field, longest_sheet, receiver_field, sheet_line};
 
-use explanation::{Denial, Explanation, Receiver};
+use explanation::{Denial, Explanation};
 use model::quantity::Level;
 
 // Copies a text into `out` from `at` on, and returns the place after it. Where it has no room, nothing is written and `at` is returned.
@@ -48,29 +48,29 @@ fn write_kind(out: &mut [u8], at: usize, mbec: bool) -> usize
 }
 
 // Writes the fields of a level, each after a tab, where it denies.
-fn write_group(out: &mut [u8], at: usize, level: Level, denial: Denial) -> usize
+fn write_group(out: &mut [u8], at: usize, level: Level, denial: Option<Denial>) -> usize
     requires { at + length (parted (group level.0 denial)) ≤ length out.old }
     ensures value { result ≡ at + length (parted (group level.0 denial)) }
     ensures out_after { out.new ≡ sets out.old at (parted (group level.0 denial)) }
 {
-    let Denial::By { mask, wanted, mbec } = denial else {
+    let Some(by) = denial else {
         return at;
     };
     let after_level = write_number(out, at, level.0);
-    let after_mask = write_number(out, after_level, mask);
-    let after_wanted = write_number(out, after_mask, wanted);
-    write_kind(out, after_wanted, mbec)
+    let after_mask = write_number(out, after_level, by.mask);
+    let after_wanted = write_number(out, after_mask, by.wanted);
+    write_kind(out, after_wanted, by.mbec)
 }
 
 // Writes the receiver at the start of `out`.
-fn write_receiver(out: &mut [u8], receiver: Receiver) -> usize
+fn write_receiver(out: &mut [u8], receiver: Option<Level>) -> usize
     requires { length (receiver_field receiver) ≤ length out.old }
     ensures value { result ≡ length (receiver_field receiver) }
     ensures out_after { out.new ≡ sets out.old 0 (receiver_field receiver) }
 {
     match receiver {
-        Receiver::Nobody => put(out, 0, b"none"),
-        Receiver::By(level) => decimal::write(out, 0, level.0),
+        None => put(out, 0, b"none"),
+        Some(level) => decimal::write(out, 0, level.0),
     }
 }
 

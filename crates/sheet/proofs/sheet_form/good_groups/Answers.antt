@@ -14,12 +14,12 @@ returns-in_default c =
 
 pub returns-then-sheet-end : goal.returns-then-sheet-end
 returns-then-sheet-end c =
-    sym (c.loop-end.invariant ∙ groups-end c.args.sheet.now c.loop-end.at c.pass_group.ensures c.in-To.is c.if-sheet-end.true)
+    sym (c.loop-end.invariant ∙ groups-end c.args.sheet.now c.loop-end.at c.pass_group.ensures c.in-Some.is c.if-sheet-end.true)
 
 pub loop-end-smaller : goal.loop-end-smaller
 loop-end-smaller c =
-    omega (arith, group-end c.args.sheet.now c.loop-end.at c.pass_group.ensures c.in-To.is)
+    omega (arith, group-end c.args.sheet.now c.loop-end.at c.pass_group.ensures c.in-Some.is)
 
 pub loop-end-preserved : goal.loop-end-preserved
 loop-end-preserved c =
-    c.loop-end.invariant ∙ groups-go-on c.args.sheet.now c.loop-end.at c.pass_group.ensures c.in-To.is c.if-sheet-end.false
+    c.loop-end.invariant ∙ groups-go-on c.args.sheet.now c.loop-end.at c.pass_group.ensures c.in-Some.is c.if-sheet-end.false

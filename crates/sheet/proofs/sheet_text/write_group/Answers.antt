@@ -1,5 +1,6 @@
 -- `sheet_text::write_group` meets its contract: nothing of a level that does not deny; else three numbers and a word, each after a tab.
 -- Assumes nothing.
+use Rattle.std.specs.Prelude.{Option, Some}
 use mathlib.Core.Bool.{Bool}
 use mathlib.Core.List.{List, ◌∷◌, ◌++◌}
 use mathlib.Core.Path.{◌≡◌, refl}
@@ -12,7 +13,7 @@ use Rattle.script.specs.LineForms.{tab}
 use Rattle.script.specs.Texts.{parted}
 use Rattle.sheet.proofs.SheetLengths.{group-text}
 use Rattle.sheet.proofs.TextPutting.{first-room, second-room}
-use Rattle.sheet.specs.Sheets.{Denial, By, group, kind_field}
+use Rattle.sheet.specs.Sheets.{Denial, group, kind_field}
 use Rattle.sheet.proofs.sheet_text.write_group.Goals as goal
 
 pub returns-in_default : goal.returns-in_default
@@ -24,11 +25,9 @@ record Parts : Type 0 where
   out : List ℕ
   at : ℕ
   level : ℕ
-  denial : Denial
-  mask : ℕ
-  wanted : ℕ
-  mbec : Bool
-  denies : denial ≡ By mask wanted mbec
+  denial : Option Denial
+  by : Denial
+  denies : denial ≡ Some by
   requires : at + length (parted (group level denial)) ≤ length out
 
 -- The level's number, its mask, the wanted bit and the word, each after a tab.
@@ -37,16 +36,16 @@ module _ (d : Parts) where
   one = tab ∷ decimal d.level
 
   abbrev two : List ℕ
-  two = tab ∷ decimal d.mask
+  two = tab ∷ decimal d.by.mask
 
   abbrev three : List ℕ
-  three = tab ∷ decimal d.wanted
+  three = tab ∷ decimal d.by.wanted
 
   abbrev four : List ℕ
-  four = tab ∷ kind_field d.mbec
+  four = tab ∷ kind_field d.by.mbec
 
   text : parted (group d.level d.denial) ≡ ((one ++ two) ++ three) ++ four
-  text = rw d.denies (group-text d.level d.mask d.wanted d.mbec)
+  text = rw d.denies (group-text d.level d.by)
 
   -- Each has room after those before it.
   room : d.at + length (((one ++ two) ++ three) ++ four) ≤ length d.out
@@ -75,10 +74,8 @@ write_number-after_level-requires c =
       at = c.args.at;
       level = c.args.level.0;
       denial = c.args.denial;
-      mask = c.in-By.mask;
-      wanted = c.in-By.wanted;
-      mbec = c.in-By.mbec;
-      denies = c.in-By.is;
+      by = c.in-Some.by;
+      denies = c.in-Some.is;
       requires = c.requires;
     } in
     first-room d.out d.at (one d) (two d) (room-two d)
@@ -90,10 +87,8 @@ write_number-after_mask-requires c =
       at = c.args.at;
       level = c.args.level.0;
       denial = c.args.denial;
-      mask = c.in-By.mask;
-      wanted = c.in-By.wanted;
-      mbec = c.in-By.mbec;
-      denies = c.in-By.is;
+      by = c.in-Some.by;
+      denies = c.in-Some.is;
       requires = c.requires;
     } in
     second-room d.out d.at (one d) (two d) (room-two d) c.write_number-after_level.ensures
@@ -105,10 +100,8 @@ write_number-after_wanted-requires c =
       at = c.args.at;
       level = c.args.level.0;
       denial = c.args.denial;
-      mask = c.in-By.mask;
-      wanted = c.in-By.wanted;
-      mbec = c.in-By.mbec;
-      denies = c.in-By.is;
+      by = c.in-Some.by;
+      denies = c.in-Some.is;
       requires = c.requires;
     } in
     second-room d.out d.at (one d ++ two d) (three d) (room-three d)
@@ -121,10 +114,8 @@ write_kind-requires c =
       at = c.args.at;
       level = c.args.level.0;
       denial = c.args.denial;
-      mask = c.in-By.mask;
-      wanted = c.in-By.wanted;
-      mbec = c.in-By.mbec;
-      denies = c.in-By.is;
+      by = c.in-Some.by;
+      denies = c.in-Some.is;
       requires = c.requires;
     } in
     second-room d.out d.at ((one d ++ two d) ++ three d) (four d) (room d)
@@ -137,10 +128,8 @@ returns c =
       at = c.args.at;
       level = c.args.level.0;
       denial = c.args.denial;
-      mask = c.in-By.mask;
-      wanted = c.in-By.wanted;
-      mbec = c.in-By.mbec;
-      denies = c.in-By.is;
+      by = c.in-Some.by;
+      denies = c.in-Some.is;
       requires = c.requires;
     } in
     rw (text d)

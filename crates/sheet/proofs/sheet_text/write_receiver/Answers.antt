@@ -3,12 +3,12 @@ use Rattle.sheet.proofs.TextPutting.{put-start}
 use Rattle.sheet.specs.Sheets.{receiver_field}
 use Rattle.sheet.proofs.sheet_text.write_receiver.Goals as goal
 
-pub returns-in-Nobody : goal.returns-in-Nobody
+pub returns-in-None : goal.returns-in-None
 unfolding receiver_field
-returns-in-Nobody c =
-    rw c.in-Nobody.is (put-start c.args.out.now _ (rw c.in-Nobody.is at c.requires) c.put.ensures)
+returns-in-None c =
+    rw c.in-None.is (put-start c.args.out.now _ (rw c.in-None.is at c.requires) c.put.ensures)
 
-pub returns-in-By : goal.returns-in-By
+pub returns-in-Some : goal.returns-in-Some
 unfolding receiver_field
-returns-in-By c =
-    rw c.in-By.is (put-start c.args.out.now _ (rw c.in-By.is at c.requires) c.write.ensures)
+returns-in-Some c =
+    rw c.in-Some.is (put-start c.args.out.now _ (rw c.in-Some.is at c.requires) c.write.ensures)

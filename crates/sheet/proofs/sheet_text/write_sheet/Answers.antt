@@ -29,9 +29,9 @@ record Parts : Type 0 where
   out : List ℕ
   explanation : Explanation
   receiver : Option Level
-  first : Denial
-  second : Denial
-  third : Denial
+  first : Option Denial
+  second : Option Denial
+  third : Option Denial
   denies : explanation ≡ Levels receiver first second third
   requires : longest_sheet ≤ length out
 
