@@ -29,9 +29,8 @@ use Rattle.records.specs.RecordTexts.{ended}
 use Rattle.sheet.specs.Sheets.{Explanation, Allowed, Host, Levels}
 use Rattle.sheet.specs.Verdicts.{refusal}
 use Rattle.inquiry.specs.AskedLines.{ranged_by}
-use Rattle.asked.specs.AskedAccess.{asked_by}
+use Rattle.asked.specs.AskedAccess.{asked_by, asks}
 use Rattle.inquiry.specs.Inquiry.{of_asked, of_line}
-use Rattle.asked.specs.declared.Asked.TheVariants as asked
 use Rattle.model.specs.declared.answer.Refusal.{Refusal}
 use Rattle.model.specs.declared.event.Event.{Event}
 
@@ -77,13 +76,13 @@ module _ (s : State) (w : well_formed s ≡ true) (v : Processor) (mode : ℕ) (
   -- So an access line is taken by its answer, or by its numbers.
   module _ (setup : Setup) (vs : processors s ≡ setup.processors) (ps : pages s ≡ setup.pages) (more : List (List ℕ)) where
     ranged-access : (access : Access) (x : ℕ)
-        → cond (eqb (number_of (step s (Made v mode (accessed access p x))).answer) 1) (ended refusal) (of_asked s (asked.Access v mode p access) more)
-        ≡ of_asked s (ranged_by setup (asked.Access v mode p access)) more
+        → cond (eqb (number_of (step s (Made v mode (accessed access p x))).answer) 1) (ended refusal) (of_asked s (asks v mode p access) more)
+        ≡ of_asked s (ranged_by setup (asks v mode p access)) more
     ranged-access access x = go (ltb v.0 setup.processors) refl (leb mode 1) refl (ltb p.0 setup.pages) refl
       where
         go : (a : Bool) → ltb v.0 setup.processors ≡ a → (b : Bool) → leb mode 1 ≡ b → (c : Bool) → ltb p.0 setup.pages ≡ c
-            → cond (eqb (number_of (step s (Made v mode (accessed access p x))).answer) 1) (ended refusal) (of_asked s (asked.Access v mode p access) more)
-            ≡ of_asked s (cond (a && b && c) (asked.Access v mode p access) asked.Nothing) more
+            → cond (eqb (number_of (step s (Made v mode (accessed access p x))).answer) 1) (ended refusal) (of_asked s (asks v mode p access) more)
+            ≡ of_asked s (cond (a && b && c) (asks v mode p access) None) more
         go true e true f true g =
             let on : v.0 < processors s = rw vs (ltb-true v.0 setup.processors e) in
             let at : p.0 < pages s = rw ps (ltb-true p.0 setup.pages g) in
@@ -107,7 +106,7 @@ module _ (s : State) (w : well_formed s ≡ true) (setup : Setup) (vs : processo
   abbrev Ranged : Result Event Refusal → Type 0
   Ranged said = of_line s said more ≡ of_asked s (ranged_by setup (asked_by said)) more
 
-  nothing-asked : (said : Result Event Refusal) → asked_by said ≡ asked.Nothing → Ranged said
+  nothing-asked : (said : Result Event Refusal) → asked_by said ≡ None → Ranged said
   nothing-asked said e = rw e (either_way (eqb (number_of (answered s said).answer) 1))
 
   ranged-action : (v : Processor) (mode : ℕ) (a : Action) → Ranged (Ok (Made v mode a))

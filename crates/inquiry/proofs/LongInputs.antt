@@ -24,10 +24,9 @@ use Rattle.script.specs.Records.{last_line, lines, lines_in}
 use Rattle.sheet.specs.SheetForms.{good_form}
 use Rattle.sheet.specs.Sheets.{Explanation}
 use Rattle.sheet.specs.Verdicts.{refusal, verdict, verdict_lines}
-use Rattle.asked.specs.AskedAccess.{asked_by}
+use Rattle.asked.specs.AskedAccess.{asked_by, asks}
 use Rattle.inquiry.specs.Inquiry.{LongRefused, explained, of_asked, of_line, of_lines, of_passed, sheet_with}
 use Rattle.asked.specs.declared.Asked.{Asked}
-use Rattle.asked.specs.declared.Asked.TheVariants as asked
 use Rattle.inquiry.proofs.AccessLines.{either_way}
 use Rattle.model.specs.declared.answer.Refusal.{Refusal}
 use Rattle.model.specs.declared.event.Event.{Event}
@@ -49,7 +48,7 @@ unfolding lines
 lines_long bytes = rw (lines-joined bytes) at (joined-long (lines_in bytes).complete (lines_in bytes).rest)
 
 -- A line that is too long says nothing, and a sheet that is too long has no good form.
-long-line : (line : List ℕ) → 256 < length line → asked_by (line_event line) ≡ asked.Nothing
+long-line : (line : List ℕ) → 256 < length line → asked_by (line_event line) ≡ None
 unfolding line_event said
 long-line line h = rw (lt-ltb 256 (length line) h)
 
@@ -59,8 +58,8 @@ long-sheet e sheet h = rw (lt-leb (length sheet) 256 h)
 
 -- Whatever a line asks for, it is refused where what follows is.
 refused-with : (s : State) (a : Asked) (more : List (List ℕ)) → ((e : Explanation) → sheet_with e more ≡ ended refusal) → of_asked s a more ≡ ended refusal
-refused-with s asked.Nothing more h = refl
-refused-with s (asked.Access v mode p access) more h = h _
+refused-with s None more h = refl
+refused-with s (asks v mode p access) more h = h _
 
 refused-line : (s : State) (said : Result Event Refusal) (more : List (List ℕ)) → of_asked s (asked_by said) more ≡ ended refusal → of_line s said more ≡ ended refusal
 refused-line s said more h = rw h (either_way (eqb (number_of (answered s said).answer) 1))

@@ -14,7 +14,6 @@ use Rattle.sheet.specs.Sheets.{Explanation, sheet_text}
 use Rattle.sheet.specs.Verdicts.{refusal, verdict}
 use Rattle.asked.specs.AskedAccess.{asked_by}
 use Rattle.asked.specs.declared.Asked.{Asked}
-use Rattle.asked.specs.declared.Asked.TheVariants as asked
 use Rattle.model.specs.declared.answer.Refusal.{Refusal}
 use Rattle.model.specs.declared.event.Event.{Event}
 
@@ -25,9 +24,9 @@ sheet_with e (sheet ∷ []) = verdict e sheet
 sheet_with e (sheet ∷ line ∷ more) = ended refusal
 
 -- A refusal where the line asks for no access, or gets answer 1.
-abbrev pub of_asked : State → Asked → List (List ℕ) → List ℕ
-of_asked s asked.Nothing more = ended refusal
-of_asked s (asked.Access v mode p access) more = sheet_with (explanation_of s v.0 (mode_of mode) p.0 access) more
+abbrev pub of_asked : State → Option Asked → List (List ℕ) → List ℕ
+of_asked s None more = ended refusal
+of_asked s (Some q) more = sheet_with (explanation_of s q.vp.0 (mode_of q.mode) q.page.0 q.access) more
 
 abbrev pub of_line : State → Result Event Refusal → List (List ℕ) → List ℕ
 of_line s said more = cond (eqb (number_of (answered s said).answer) 1) (ended refusal) (of_asked s (asked_by said) more)

@@ -26,43 +26,30 @@ use sheet::LONGEST_VERDICT;
 // An input of more bytes is refused, whatever it says (`LongRefused`). So a program that reads one byte more has all that counts.
 pub const LONGEST_INQUIRY: usize = 66049;
 
-// The access that a line asks for on a machine: there are such a processor, such a mode and such a page.
-fn access_line(setup: Setup, line: &[u8]) -> Asked
+// The access that a line asks for on a machine, if it does: there are such a processor, such a mode and such a page.
+fn access_line(setup: Setup, line: &[u8]) -> Option<Asked>
     ensures { result ≡ ranged_by setup (asked_by (line_event line.now)) }
 {
-    let Asked::Access {
-        vp,
-        mode,
-        page,
-        access,
-    } = asked_by(script::parse(line))
-    else {
-        return Asked::Nothing;
-    };
-    if (vp.0 < setup.processors) & (mode <= 1) & (page.0 < setup.pages) {
-        return Asked::Access {
-            vp,
-            mode,
-            page,
-            access,
-        };
+    let asked = asked_by(script::parse(line))?;
+    if (asked.vp.0 < setup.processors) & (asked.mode <= 1) & (asked.page.0 < setup.pages) {
+        return Some(asked);
     }
-    Asked::Nothing
+    None
 }
 
 // Why an access is allowed or denied on the machine that was read.
-fn explain_on(received: Received, vp: Processor, request: Request) -> Explanation
+fn explain_on(received: &Received, vp: Processor, request: Request) -> Explanation
     ensures { result
-        ≡ explanation_of (state_in received) vp.0 request.mode request.page.0 request.access }
+        ≡ explanation_of (state_in received.now) vp.0 request.mode request.page.0 request.access }
 {
-    let first = received.first;
-    let second = received.second;
-    let third = received.third;
-    let fourth = received.fourth;
-    let vps = [first, second, third, fourth];
-    let levels = received.levels;
-    let masks = received.masks;
-    explanation::explain_in(received.setup, &levels, &masks, &vps, vp, request)
+    explanation::explain_in(
+        received.setup,
+        &received.levels,
+        &received.masks,
+        &received.vps,
+        vp,
+        request,
+    )
 }
 
 // Writes the refusal.
@@ -99,29 +86,22 @@ pub fn explain(input: &[u8], out: &mut [u8; LONGEST_VERDICT]) -> usize
     ensures out { out.new ≡ sets out.old 0 (explained input.now) }
     ensures bounds { Wrote (explained input.now) result out.old out.new }
 {
-    let received = reader::read(input);
-    if !received.accepted {
+    let Some(received) = reader::read(input) else {
         return refuse(out);
-    }
+    };
     let used = received.used;
     if input.len() <= used {
         return refuse(out);
     }
     let end = line_end(input, used);
-    let Asked::Access {
-        vp,
-        mode,
-        page,
-        access,
-    } = access_line(received.setup, &input[used..end])
-    else {
+    let Some(asked) = access_line(received.setup, &input[used..end]) else {
         return refuse(out);
     };
     let request = Request {
-        mode: mode_of(mode),
-        page,
-        access,
+        mode: mode_of(asked.mode),
+        page: asked.page,
+        access: asked.access,
     };
-    let explanation = explain_on(received, vp, request);
+    let explanation = explain_on(&received, asked.vp, request);
     write_with(out, explanation, input, at_most(end + 1, input.len()))
 }

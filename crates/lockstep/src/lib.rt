@@ -18,7 +18,6 @@ use model::event::Event;
 use model::machine::FirstLine;
 use model::quantity::Level;
 use processor::record::active_of;
-use script::{Parsed, Start};
 use state::fresh;
 
 mod machine_words; // the parts of a machine in words
@@ -71,8 +70,8 @@ pub fn open(line: &[u8], machine: &mut [u64]) -> u64
     }
     let start = script::parse_first(line);
     match start {
-        Start::Malformed(refusal) => refusal_reason(refusal),
-        Start::First(first) => {
+        Err(refusal) => refusal_reason(refusal),
+        Ok(first) => {
             if !fresh::admissible(first) {
                 return NOT_ADMISSIBLE;
             }
@@ -124,8 +123,8 @@ fn answer_line(machine: &mut [u64], line: &[u8]) -> Reply
 {
     let parsed = script::parse(line);
     match parsed {
-        Parsed::Event(event) => answer_event(machine, event),
-        Parsed::Malformed(refusal) => told(Answer::Refused(refusal), Level(0)),
+        Ok(event) => answer_event(machine, event),
+        Err(refusal) => told(Answer::Refused(refusal), Level(0)),
     }
 }
 

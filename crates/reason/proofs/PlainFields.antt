@@ -46,11 +46,15 @@ unfolding receiver_field
 plain-receiver None = refl
 plain-receiver (Some level) = plain-number level.0
 
+plain-kind : (mbec : Bool) → plain (kind_field mbec) ≡ true
+unfolding kind_field
+plain-kind true = refl
+plain-kind false = refl
+
 plain-group : (level : ℕ) (d : Option Denial) → every plain (group level d) ≡ true
 unfolding group kind_field
 plain-group level None = refl
-plain-group level (By mask wanted true) = rw (plain-number level, plain-number mask, plain-number wanted)
-plain-group level (By mask wanted false) = rw (plain-number level, plain-number mask, plain-number wanted)
+plain-group level (Some by) = rw (plain-number level, plain-number by.mask, plain-number by.wanted, plain-kind by.mbec)
 
 plain-sheet : (e : Explanation) → every plain (sheet_fields e) ≡ true
 unfolding sheet_fields

@@ -3,7 +3,6 @@
 use Rattle.std.specs.Prelude.{Bool, cond, ◌||◌, List, [], ◌∷◌, ◌++◌, ℕ, eqb, None, Option, Result, Some}
 use Rattle.asked.specs.AskedAccess.{asked_by}
 use Rattle.asked.specs.declared.Asked.{Asked}
-use Rattle.asked.specs.declared.Asked.TheVariants as asked
 use Rattle.decimal.specs.Write.{decimal}
 use Rattle.explanation.specs.Explained.{explanation_of}
 use Rattle.listing.specs.Listing.{Answered, answered}
@@ -25,9 +24,9 @@ use Rattle.explanation.specs.declared.Explanation.{Explanation}
 use Rattle.model.specs.declared.event.Event.{Event}
 
 -- Why the access that a line asks for is allowed or denied in a state, if it asks for one.
-abbrev pub cause_of : State → Asked → Option Explanation
-cause_of s asked.Nothing = None
-cause_of s (asked.Access v mode p access) = Some (explanation_of s v.0 (mode_of mode) p.0 access)
+abbrev pub cause_of : State → Option Asked → Option Explanation
+cause_of s None = None
+cause_of s (Some q) = Some (explanation_of s q.vp.0 (mode_of q.mode) q.page.0 q.access)
 
 -- A denied access has its explanation as the reason, any other event the reason that is given.
 abbrev pub denied_by : Option Explanation → Reason → Reason

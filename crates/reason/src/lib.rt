@@ -30,13 +30,6 @@ const NO_RECEIVER: u64 = 10;
 
 const HOST_DENIES: u64 = 11;
 
-// Why the access that a line asks for is allowed or denied, if the line asks for one.
-#[derive(Clone, Copy)]
-pub enum Cause {
-    Nothing,
-    Access(Explanation),
-}
-
 // Why a line got its answer.
 #[derive(Clone, Copy)]
 pub enum Reason {
@@ -54,46 +47,38 @@ pub enum Reason {
     EmptyInput,
 }
 
-// Why the access that a line asks for is allowed or denied on a machine whose parts are lent. The words of the pages do not matter.
+// Why the access that a line asks for, if it asks for one, is allowed or denied on a machine whose parts are lent. The words of the pages do not matter.
 pub fn cause_of(
     setup: Setup,
     levels: &Levels,
     masks: &Masks,
     vps: &[Record; 4],
-    asked: Asked,
-) -> Cause
+    asked: Option<Asked>,
+) -> Option<Explanation>
     ensures { (words : List ℕ)
         → cause_of (lent setup levels.now masks.now vps.now words) asked ≡ result }
 {
-    let Asked::Access {
-        vp,
-        mode,
-        page,
-        access,
-    } = asked
-    else {
-        return Cause::Nothing;
-    };
+    let asked = asked?;
     let request = Request {
-        mode: mode_of(mode),
-        page,
-        access,
+        mode: mode_of(asked.mode),
+        page: asked.page,
+        access: asked.access,
     };
-    Cause::Access(explain_in(setup, levels, masks, vps, vp, request))
+    Some(explain_in(setup, levels, masks, vps, asked.vp, request))
 }
 
 // A denied access has its explanation as the reason, any other event the reason that is given.
-fn denied_by(cause: Cause, other: Reason) -> Reason
+fn denied_by(cause: Option<Explanation>, other: Reason) -> Reason
     ensures { result ≡ denied_by cause other }
 {
     match cause {
-        Cause::Nothing => other,
-        Cause::Access(explanation) => Reason::Denied(explanation),
+        None => other,
+        Some(explanation) => Reason::Denied(explanation),
     }
 }
 
 // The reason for an answer, where `cause` tells of the access that the line asked for in the state before it.
-pub fn reason_for(cause: Cause, answer: Answer) -> Reason
+pub fn reason_for(cause: Option<Explanation>, answer: Answer) -> Reason
     ensures { result ≡ reason_for cause answer }
 {
     match answer {

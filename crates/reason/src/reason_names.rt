@@ -1,67 +1,63 @@
 // The name of each refusal as bytes: a tab, the name (reason_name of specs/ReasonNames.antt), and a line feed.
-ghost use Rattle.std.specs.Prelude.{[], ◌∷◌, ◌++◌, ◌≡◌, ◌≤◌, length, take};
+ghost use Rattle.std.specs.Prelude.{[], ◌∷◌, ◌++◌, ◌≡◌};
 ghost use Rattle.reason.specs.ReasonNames.{reason_name};
 ghost use Rattle.script.specs.LineForms.{tab};
 ghost use Rattle.script.specs.ListingLine.{line_feed};
 
 use model::answer::Refusal;
 
-// A name after its tab and with the line feed that ends the line, in the first of 32 bytes, and how many bytes they take.
-#[derive(Clone, Copy)]
-pub struct NameText(pub [u8; 32], pub usize);
-
-// The name of a refusal.
-pub fn name_of(refusal: Refusal) -> NameText
-    ensures text { take result.1 result.0 ≡ tab ∷ reason_name refusal ++ line_feed ∷ [] }
-    ensures within { result.1 ≤ length result.0 }
+// The name of a refusal, after a tab and with the line feed that ends the line.
+#[tactic(auto, unfolding(crate::specs::ReasonNames::reason_name))]
+pub fn name_of(refusal: Refusal) -> &'static [u8]
+    ensures { result.now ≡ tab ∷ reason_name refusal ++ line_feed ∷ [] }
 {
     match refusal {
-        Refusal::LineTooLong => NameText(*b"\ttoo-long\n                      ", 10),
-        Refusal::UnknownWord => NameText(*b"\tunknown-word\n                  ", 14),
-        Refusal::WrongFieldCount => NameText(*b"\tfield-count\n                   ", 13),
-        Refusal::NotANumber => NameText(*b"\tnot-a-number\n                  ", 14),
-        Refusal::NotWellFormed => NameText(*b"\tstate-not-well-formed\n         ", 23),
-        Refusal::NoSuchProcessor => NameText(*b"\tno-such-processor\n             ", 19),
-        Refusal::NoSuchTarget => NameText(*b"\tno-such-target\n                ", 16),
-        Refusal::NoSuchMode => NameText(*b"\tmode-above-1\n                  ", 14),
-        Refusal::LevelOutOfRange => NameText(*b"\tlevel-above-15\n                ", 16),
-        Refusal::MbecOutOfRange => NameText(*b"\tmbec-flag-above-1\n             ", 19),
-        Refusal::LengthOutOfRange => NameText(*b"\tlength-not-1-to-15\n            ", 20),
-        Refusal::ClassOutOfRange => NameText(*b"\tclass-above-15\n                ", 16),
-        Refusal::VectorOutOfRange => NameText(*b"\tvector-not-16-to-255\n          ", 22),
-        Refusal::NoSuchRegister => NameText(*b"\tregister-above-31\n             ", 19),
-        Refusal::NoSuchPage => NameText(*b"\tno-such-page\n                  ", 14),
-        Refusal::InvalidMask => NameText(*b"\tmask-invalid\n                  ", 14),
-        Refusal::ReservedBits => NameText(*b"\treserved-bit-set\n              ", 18),
-        Refusal::Cr0InRealMode => NameText(*b"\tcr0-bit-0-clear\n               ", 17),
-        Refusal::NoSuchMask => NameText(*b"\tmask-not-cr0-or-cr4\n           ", 21),
-        Refusal::UserMode => NameText(*b"\tuser-mode\n                     ", 11),
-        Refusal::CallInRealMode => NameText(*b"\tcall-in-real-mode\n             ", 19),
-        Refusal::RcxNotZero => NameText(*b"\trcx-not-zero\n                  ", 14),
-        Refusal::NoHigherLevel => NameText(*b"\tno-higher-level\n               ", 17),
-        Refusal::ReturnAtLevelZero => NameText(*b"\treturn-at-level-0\n             ", 19),
-        Refusal::RcxAboveOne => NameText(*b"\trcx-above-1\n                   ", 13),
-        Refusal::LevelZero => NameText(*b"\ttarget-level-0\n                ", 16),
-        Refusal::AboveMaximum => NameText(*b"\tlevel-above-maximum\n           ", 21),
-        Refusal::TargetNotAbove => NameText(*b"\ttarget-not-above-actor\n        ", 24),
-        Refusal::TargetGuarded => NameText(*b"\ttarget-guarded\n                ", 16),
-        Refusal::TargetAbove => NameText(*b"\ttarget-above-actor\n            ", 20),
-        Refusal::TargetNotBelow => NameText(*b"\ttarget-not-below-actor\n        ", 24),
-        Refusal::ProtectAtLevelZero => NameText(*b"\tprotect-at-level-0\n            ", 20),
-        Refusal::WatchAtLevelZero => NameText(*b"\twatch-at-level-0\n              ", 18),
-        Refusal::EnabledForPartition => NameText(*b"\tenabled-for-partition\n         ", 23),
-        Refusal::EnabledOnProcessor => NameText(*b"\tenabled-on-processor\n          ", 22),
-        Refusal::NotEnabledForPartition => NameText(*b"\tnot-enabled-for-partition\n     ", 27),
-        Refusal::NotEnabledOnProcessor => NameText(*b"\tnot-enabled-on-processor\n      ", 26),
-        Refusal::ProtectionsOff => NameText(*b"\tprotections-off\n               ", 17),
-        Refusal::NoMbec => NameText(*b"\tno-mbec\n                       ", 9),
-        Refusal::ProtectionsCleared => NameText(*b"\tprotections-turned-off\n        ", 24),
-        Refusal::DefaultMaskChanged => NameText(*b"\tdefault-mask-changed\n          ", 22),
-        Refusal::KernelOnlyExecute => NameText(*b"\tkmx-without-umx\n               ", 17),
-        Refusal::NoReceiver => NameText(*b"\tno-receiver\n                   ", 13),
-        Refusal::HostDenies => NameText(*b"\thost-denies\n                   ", 13),
-        Refusal::TlbLocked => NameText(*b"\tflush-held\n                    ", 12),
-        Refusal::NoReadyVector => NameText(*b"\tno-vector-ready\n               ", 17),
-        Refusal::InterruptFlagClear => NameText(*b"\tinterrupt-flag-clear\n          ", 22),
+        Refusal::LineTooLong => b"\ttoo-long\n",
+        Refusal::UnknownWord => b"\tunknown-word\n",
+        Refusal::WrongFieldCount => b"\tfield-count\n",
+        Refusal::NotANumber => b"\tnot-a-number\n",
+        Refusal::NotWellFormed => b"\tstate-not-well-formed\n",
+        Refusal::NoSuchProcessor => b"\tno-such-processor\n",
+        Refusal::NoSuchTarget => b"\tno-such-target\n",
+        Refusal::NoSuchMode => b"\tmode-above-1\n",
+        Refusal::LevelOutOfRange => b"\tlevel-above-15\n",
+        Refusal::MbecOutOfRange => b"\tmbec-flag-above-1\n",
+        Refusal::LengthOutOfRange => b"\tlength-not-1-to-15\n",
+        Refusal::ClassOutOfRange => b"\tclass-above-15\n",
+        Refusal::VectorOutOfRange => b"\tvector-not-16-to-255\n",
+        Refusal::NoSuchRegister => b"\tregister-above-31\n",
+        Refusal::NoSuchPage => b"\tno-such-page\n",
+        Refusal::InvalidMask => b"\tmask-invalid\n",
+        Refusal::ReservedBits => b"\treserved-bit-set\n",
+        Refusal::Cr0InRealMode => b"\tcr0-bit-0-clear\n",
+        Refusal::NoSuchMask => b"\tmask-not-cr0-or-cr4\n",
+        Refusal::UserMode => b"\tuser-mode\n",
+        Refusal::CallInRealMode => b"\tcall-in-real-mode\n",
+        Refusal::RcxNotZero => b"\trcx-not-zero\n",
+        Refusal::NoHigherLevel => b"\tno-higher-level\n",
+        Refusal::ReturnAtLevelZero => b"\treturn-at-level-0\n",
+        Refusal::RcxAboveOne => b"\trcx-above-1\n",
+        Refusal::LevelZero => b"\ttarget-level-0\n",
+        Refusal::AboveMaximum => b"\tlevel-above-maximum\n",
+        Refusal::TargetNotAbove => b"\ttarget-not-above-actor\n",
+        Refusal::TargetGuarded => b"\ttarget-guarded\n",
+        Refusal::TargetAbove => b"\ttarget-above-actor\n",
+        Refusal::TargetNotBelow => b"\ttarget-not-below-actor\n",
+        Refusal::ProtectAtLevelZero => b"\tprotect-at-level-0\n",
+        Refusal::WatchAtLevelZero => b"\twatch-at-level-0\n",
+        Refusal::EnabledForPartition => b"\tenabled-for-partition\n",
+        Refusal::EnabledOnProcessor => b"\tenabled-on-processor\n",
+        Refusal::NotEnabledForPartition => b"\tnot-enabled-for-partition\n",
+        Refusal::NotEnabledOnProcessor => b"\tnot-enabled-on-processor\n",
+        Refusal::ProtectionsOff => b"\tprotections-off\n",
+        Refusal::NoMbec => b"\tno-mbec\n",
+        Refusal::ProtectionsCleared => b"\tprotections-turned-off\n",
+        Refusal::DefaultMaskChanged => b"\tdefault-mask-changed\n",
+        Refusal::KernelOnlyExecute => b"\tkmx-without-umx\n",
+        Refusal::NoReceiver => b"\tno-receiver\n",
+        Refusal::HostDenies => b"\thost-denies\n",
+        Refusal::TlbLocked => b"\tflush-held\n",
+        Refusal::NoReadyVector => b"\tno-vector-ready\n",
+        Refusal::InterruptFlagClear => b"\tinterrupt-flag-clear\n",
     }
 }

@@ -31,10 +31,7 @@ fn write_name(out: &mut [u8], at: usize, refusal: Refusal) -> usize
     ensures value { result ≡ at + length (tab ∷ reason_name refusal ++ line_feed ∷ []) }
     ensures out_after { out.new ≡ sets out.old at (tab ∷ reason_name refusal ++ line_feed ∷ []) }
 {
-    let name = name_of(refusal);
-    let text = name.0;
-    let size = name.1;
-    put(out, at, &text[..size])
+    put(out, at, name_of(refusal))
 }
 
 // Writes a tab, the line of an explanation, and its line feed.

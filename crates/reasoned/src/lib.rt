@@ -18,7 +18,6 @@ use line_reason::tell;
 use listing::Shown;
 use model::quantity::Level;
 use reason::{LONGEST_REASONED, Reason, write_line};
-use script::Start;
 use session::{Fed, LONGEST_RECORD, Phase, Session, Written};
 
 mod line_reason; // a later line, with its reason
@@ -30,13 +29,13 @@ fn first_reason(start: Session) -> Reason
     let line = start.line;
     let said = chunk::parse_first(&line, start.length);
     match said {
-        Start::First(first) => {
+        Ok(first) => {
             if state::fresh::admissible(first) {
                 return Reason::Nothing;
             }
             Reason::OutOfRange
         }
-        Start::Malformed(refusal) => Reason::Named(refusal),
+        Err(refusal) => Reason::Named(refusal),
     }
 }
 

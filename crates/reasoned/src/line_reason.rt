@@ -7,16 +7,16 @@ ghost use Rattle.reasoned.specs.ReasonedParts.{ToldBy};
 ghost use Rattle.state.specs.Lent.{lent};
 
 use asked::asked_by;
+use explanation::Explanation;
 use listing::Shown;
-use model::answer::Answer;
+use model::answer::{Answer, Refusal};
 use model::event::Event;
 use model::machine::Setup;
 use model::quantity::Level;
 use partition::level::Levels;
 use partition::mask::Masks;
 use processor::record::{Record, active_of};
-use reason::{Cause, Reason, cause_of, reason_for};
-use script::Parsed;
+use reason::{Reason, cause_of, reason_for};
 use state::well_formed_state::well_formed;
 
 // What the listing shows of an answer, and the reason for it.
@@ -28,7 +28,7 @@ pub struct Told {
 
 // What an event is answered, with the reason, where `cause` tells of the access that it asks for.
 fn tell_event(
-    cause: Cause,
+    cause: Option<Explanation>,
     setup: Setup,
     levels: &mut Levels,
     masks: &mut Masks,
@@ -59,7 +59,7 @@ pub(crate) fn tell(
     masks: &mut Masks,
     vps: &mut [Record; 4],
     words: &mut [u64],
-    parsed: Parsed,
+    parsed: Result<Event, Refusal>,
 ) -> Told
     ensures { ToldBy
         (cause_of (lent setup levels.old masks.old vps.old words.old)
@@ -70,8 +70,8 @@ pub(crate) fn tell(
     let asked = asked_by(parsed);
     let cause = cause_of(setup, levels, masks, vps, asked);
     match parsed {
-        Parsed::Event(event) => tell_event(cause, setup, levels, masks, vps, words, event),
-        Parsed::Malformed(refusal) => {
+        Ok(event) => tell_event(cause, setup, levels, masks, vps, words, event),
+        Err(refusal) => {
             let answer = Answer::Refused(refusal);
             Told {
                 shown: listing::show(answer, Level(0)),

@@ -13,7 +13,6 @@ use model::quantity::Level;
 use partition::level::Levels;
 use partition::mask::Masks;
 use processor::record::{Record, active_of};
-use script::Parsed;
 
 // What an event is answered, in a state that is well formed as `formed` tells.
 fn answer_event(
@@ -55,7 +54,7 @@ pub(crate) fn answer_line(
 {
     let parsed = script::parse(line);
     match parsed {
-        Parsed::Event(event) => answer_event(formed, setup, levels, masks, vps, words, event),
-        Parsed::Malformed(refusal) => listing::show(Answer::Refused(refusal), Level(0)),
+        Ok(event) => answer_event(formed, setup, levels, masks, vps, words, event),
+        Err(refusal) => listing::show(Answer::Refused(refusal), Level(0)),
     }
 }

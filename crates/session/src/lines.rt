@@ -17,7 +17,6 @@ use model::quantity::Level;
 use partition::level::Levels;
 use partition::mask::Masks;
 use processor::record::Record;
-use script::Start;
 use state::fresh;
 use state::well_formed_state::well_formed;
 
@@ -168,7 +167,7 @@ fn end_first(start: Session, out: &mut [u8]) -> Written
         out.old out.new }
 {
     let line = start.line;
-    let Start::First(first) = chunk::parse_first(&line, start.length) else {
+    let Ok(first) = chunk::parse_first(&line, start.length) else {
         return refuse_first(out);
     };
     if !state::fresh::admissible(first) {

@@ -14,7 +14,7 @@ unfolding opened
 returns-then-not-admissible c =
     rw (
       le-ltb _ _ c.if-machine-lt-MACHINE_WORDS.false,
-      sym c.parse_first-start.ensures ∙ c.in-First.is,
+      sym c.parse_first-start.ensures ∙ c.in-Ok.is,
       sym c.admissible.ensures ∙ c.if-not-admissible.true,
     )
     record { reason = refl; words = refl; state = refl }
@@ -22,10 +22,10 @@ returns-then-not-admissible c =
 pub open_first-requires : goal.open_first-requires
 open_first-requires c = (search rules, sym c.admissible.ensures ∙ c.if-not-admissible.false)
 
-pub returns-in-Malformed : goal.returns-in-Malformed
+pub returns-in-Err : goal.returns-in-Err
 unfolding opened
-returns-in-Malformed c =
-    rw (le-ltb _ _ c.if-machine-lt-MACHINE_WORDS.false, sym c.parse_first-start.ensures ∙ c.in-Malformed.is)
+returns-in-Err c =
+    rw (le-ltb _ _ c.if-machine-lt-MACHINE_WORDS.false, sym c.parse_first-start.ensures ∙ c.in-Err.is)
     record { reason = c.refusal_reason.ensures; words = refl; state = refl }
 
 pub returns-else-not-admissible : goal.returns-else-not-admissible
@@ -34,7 +34,7 @@ returns-else-not-admissible c =
     let made = c.open_first.ensures in
     rw (
       le-ltb _ _ c.if-machine-lt-MACHINE_WORDS.false,
-      sym c.parse_first-start.ensures ∙ c.in-First.is,
+      sym c.parse_first-start.ensures ∙ c.in-Ok.is,
       sym c.admissible.ensures ∙ c.if-not-admissible.false,
     )
     record { reason = refl; words = made.words; state = made.state }

@@ -4,14 +4,14 @@ use Rattle.reasoned.proofs.ReasonedLines.{shown-malformed}
 use Rattle.state.specs.Lent.{lent}
 use Rattle.reasoned.proofs.line_reason.tell.Goals as goal
 
-pub returns-in-Event : goal.returns-in-Event
-returns-in-Event c =
+pub returns-in-Ok : goal.returns-in-Ok
+returns-in-Ok c =
     let a = c.args in
-    rw (← c.asked_by-asked.ensures, c.cause_of-cause.ensures a.words.now, c.in-Event.is) c.tell_event.ensures
+    rw (← c.asked_by-asked.ensures, c.cause_of-cause.ensures a.words.now, c.in-Ok.is) c.tell_event.ensures
 
-pub returns-in-Malformed : goal.returns-in-Malformed
-returns-in-Malformed c =
+pub returns-in-Err : goal.returns-in-Err
+returns-in-Err c =
     let a = c.args in
     let s = lent a.setup a.levels.now a.masks.now a.vps.now a.words.now in
-    rw (← c.asked_by-asked.ensures, c.cause_of-cause.ensures a.words.now, c.in-Malformed.is)
-    (record { next = refl; shown = c.show.ensures ∙ shown-malformed s c.in-Malformed.refusal; why = c.reason_for.ensures })
+    rw (← c.asked_by-asked.ensures, c.cause_of-cause.ensures a.words.now, c.in-Err.is)
+    (record { next = refl; shown = c.show.ensures ∙ shown-malformed s c.in-Err.refusal; why = c.reason_for.ensures })

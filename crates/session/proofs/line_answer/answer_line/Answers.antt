@@ -4,16 +4,16 @@ use Rattle.state.specs.Lent.{lent}
 use Rattle.std.proofs.Common.{sym, ◌∙◌}
 use Rattle.session.proofs.line_answer.answer_line.Goals as goal
 
-pub returns-in-Event : goal.returns-in-Event
-returns-in-Event c =
-    rw (sym c.parse-parsed.ensures ∙ c.in-Event.is)
+pub returns-in-Ok : goal.returns-in-Ok
+returns-in-Ok c =
+    rw (sym c.parse-parsed.ensures ∙ c.in-Ok.is)
     c.answer_event.ensures
 
-pub returns-in-Malformed : goal.returns-in-Malformed
-returns-in-Malformed c =
+pub returns-in-Err : goal.returns-in-Err
+returns-in-Err c =
     let a = c.args in
     let told = told-malformed (lent a.setup a.levels.now a.masks.now a.vps.now a.words.now) _ _
-    (sym c.parse-parsed.ensures ∙ c.in-Malformed.is) in
+    (sym c.parse-parsed.ensures ∙ c.in-Err.is) in
     record { next = told.0; kept = c.requires; shown = c.show.ensures ∙ told.1 }
 
 pub answer_event-requires : goal.answer_event-requires

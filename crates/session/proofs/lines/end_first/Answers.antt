@@ -9,7 +9,7 @@ returns-in_default c =
 
 pub returns-then-not-admissible : goal.returns-then-not-admissible
 returns-then-not-admissible c =
-    rw (first-refused _ _ (sym c.parse_first.ensures ∙ c.in-First.is) (sym c.admissible.ensures ∙ c.if-not-admissible.true))
+    rw (first-refused _ _ (sym c.parse_first.ensures ∙ c.in-Ok.is) (sym c.admissible.ensures ∙ c.if-not-admissible.true))
     c.refuse_first-then-not-admissible.ensures
 
 pub begin-requires : goal.begin-requires
@@ -18,5 +18,5 @@ begin-requires c =
 
 pub returns : goal.returns
 returns c =
-    rw (first_done _ _ (sym c.parse_first.ensures ∙ c.in-First.is) (sym c.admissible.ensures ∙ c.if-not-admissible.false))
+    rw (first_done _ _ (sym c.parse_first.ensures ∙ c.in-Ok.is) (sym c.admissible.ensures ∙ c.if-not-admissible.false))
     c.begin.ensures
