@@ -34,7 +34,7 @@ lent_of words lent = take (min lent 64) words
 
 -- The state of a session.
 abbrev pub state_in : Session → State
-state_in s = lent s.setup s.levels s.masks (s.first ∷ s.second ∷ s.third ∷ s.fourth ∷ []) (lent_of s.words s.lent)
+state_in s = lent s.setup s.levels s.masks s.vps (lent_of s.words s.lent)
 
 -- What a session stands for. The buffer beyond the bytes of the line, and the words beyond those of the pages, are no part of it.
 abbrev pub progress_of : Session → Progress

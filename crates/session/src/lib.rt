@@ -44,10 +44,7 @@ pub struct Session {
     pub setup: Setup,
     pub levels: Levels,
     pub masks: Masks,
-    pub first: Record,
-    pub second: Record,
-    pub third: Record,
-    pub fourth: Record,
+    pub vps: [Record; 4],
     // The words of its pages: the first `lent` of the array.
     pub lent: usize,
     pub words: [u64; 64],
@@ -92,10 +89,6 @@ pub fn on_machine(
 ) -> Session
     ensures { progress_of result ≡ later 1 (lent setup levels masks vps (lent_of words setup.pages)) [] }
 {
-    let first = vps[0];
-    let second = vps[1];
-    let third = vps[2];
-    let fourth = vps[3];
     Session {
         phase: Phase::Later,
         number: 1,
@@ -104,10 +97,7 @@ pub fn on_machine(
         setup,
         levels,
         masks,
-        first,
-        second,
-        third,
-        fourth,
+        vps,
         lent: setup.pages as usize,
         words,
     }
@@ -122,23 +112,11 @@ pub fn lent_words(words: &[u64; 64], lent: usize) -> usize
     chunk::at_most(lent, all.len())
 }
 
-// The records of the four processors of a session.
-pub fn records(start: Session) -> [Record; 4]
-    ensures { result ≡ start.first ∷ start.second ∷ start.third ∷ start.fourth ∷ [] }
-{
-    let first = start.first;
-    let second = start.second;
-    let third = start.third;
-    let fourth = start.fourth;
-    [first, second, third, fourth]
-}
-
 // Whether a session has stopped after a refused first line: what follows is not read.
 pub fn stopped(session: Session) -> bool
     ensures { result ≡ is_stopped (progress_of session) }
 {
-    let phase = session.phase;
-    lines::has_stopped(phase)
+    lines::has_stopped(session.phase)
 }
 
 // Uses as much of a chunk as `out` has room for the records of, and says how much that was: no line is ended while the longest
@@ -154,15 +132,14 @@ pub fn feed(start: Session, chunk: &[u8], out: &mut [u8]) -> Fed
         ≡ sets out.old 0 (fed (progress_of start) chunk.now (length out.old)).text }
     ensures bounds { Bounds result.used result.wrote chunk.now out.new }
 {
-    let phase = start.phase;
-    if lines::has_stopped(phase) {
+    if lines::has_stopped(start.phase) {
         return Fed {
             session: start,
             used: chunk.len(),
             wrote: 0,
         };
     }
-    if lines::is_later(phase) & (start.length == 0) {
+    if lines::is_later(start.phase) & (start.length == 0) {
         return lines::feed_later(start, chunk, 0, out, 0);
     }
     let end = chunk::line_end(chunk, 0);
@@ -183,8 +160,7 @@ pub fn feed(start: Session, chunk: &[u8], out: &mut [u8]) -> Fed
     let line = lines::keep(start, &chunk[..end]);
     let ended = lines::end_line(line, out);
     let next = ended.session;
-    let after = next.phase;
-    if lines::has_stopped(after) {
+    if lines::has_stopped(next.phase) {
         return Fed {
             session: next,
             used: chunk.len(),
@@ -201,10 +177,8 @@ pub fn finish(session: Session, out: &mut [u8; LONGEST_RECORD]) -> Written
     ensures out { out.new ≡ sets out.old 0 (last_text (progress_of session)) }
     ensures bounds { Bounds 0 result.wrote [] out.new }
 {
-    let phase = session.phase;
-    let line = session.line;
-    let held = chunk::held_length(&line, session.length);
-    if lines::is_later(phase) & (held == 0) {
+    let held = chunk::held_length(&session.line, session.length);
+    if lines::is_later(session.phase) & (held == 0) {
         return Written { session, wrote: 0 };
     }
     let buffer: &mut [u8] = out;

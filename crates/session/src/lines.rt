@@ -10,7 +10,7 @@ ghost use Rattle.script.specs.ListingLine.{listing_line, longest_record};
 ghost use Rattle.std.proofs.lemmas.List.Edits.{sets};
 
 use crate::line_answer::answer_line;
-use crate::{Fed, LONGEST_RECORD, Phase, Session, Written, lent_words, listing_record, records};
+use crate::{Fed, LONGEST_RECORD, Phase, Session, Written, lent_words, listing_record};
 use listing::Shown;
 use model::machine::FirstLine;
 use model::quantity::Level;
@@ -24,21 +24,13 @@ use state::well_formed_state::well_formed;
 pub(crate) fn has_stopped(phase: Phase) -> bool
     ensures { result ≡ has_stopped phase }
 {
-    match phase {
-        Phase::First => false,
-        Phase::Later => false,
-        Phase::Stopped => true,
-    }
+    matches!(phase, Phase::Stopped)
 }
 
 pub(crate) fn is_later(phase: Phase) -> bool
     ensures { result ≡ is_later phase }
 {
-    match phase {
-        Phase::First => false,
-        Phase::Later => true,
-        Phase::Stopped => false,
-    }
+    matches!(phase, Phase::Later)
 }
 
 // The session of a phase with the machine that a first line describes. It holds nothing of a line, and all words are 0.
@@ -47,7 +39,6 @@ fn opened(phase: Phase, number: u64, first: FirstLine, lent: usize) -> Session
     ensures state { state_in result
         ≡ record { machine = (fresh first).machine; words = lent_of (replicate 64 0) lent } }
 {
-    let record = fresh::fresh_record();
     Session {
         phase,
         number,
@@ -56,10 +47,7 @@ fn opened(phase: Phase, number: u64, first: FirstLine, lent: usize) -> Session
         setup: fresh::setup_of(first),
         levels: fresh::fresh_levels(),
         masks: fresh::fresh_masks(),
-        first: record,
-        second: record,
-        third: record,
-        fourth: record,
+        vps: [fresh::fresh_record(); 4],
         lent,
         words: [0; 64],
     }
@@ -92,26 +80,15 @@ pub fn after_line(
     ensures { progress_of result
         ≡ later number (lent start.setup levels masks vps (lent_of words start.lent)) [] }
 {
-    let line = start.line;
-    let setup = start.setup;
-    let first = vps[0];
-    let second = vps[1];
-    let third = vps[2];
-    let fourth = vps[3];
     Session {
         phase: Phase::Later,
         number,
         length: 0,
-        line,
-        setup,
         levels,
         masks,
-        first,
-        second,
-        third,
-        fourth,
-        lent: start.lent,
+        vps,
         words,
+        ..start
     }
 }
 
@@ -166,8 +143,7 @@ fn end_first(start: Session, out: &mut [u8]) -> Written
     ensures { EndedBy (ended (first (held start.line start.length))) result
         out.old out.new }
 {
-    let line = start.line;
-    let Ok(first) = chunk::parse_first(&line, start.length) else {
+    let Ok(first) = chunk::parse_first(&start.line, start.length) else {
         return refuse_first(out);
     };
     if !state::fresh::admissible(first) {
@@ -182,17 +158,16 @@ fn end_later(start: Session, out: &mut [u8]) -> Written
     ensures { EndedBy (ended (later start.number (state_in start) (held start.line start.length))) result
         out.old out.new }
 {
-    let line = start.line;
     let number = start.number;
     let next = std::num::wrapping_add_u64(number, 1);
     let setup = start.setup;
     let mut levels = start.levels;
     let mut masks = start.masks;
-    let mut vps = records(start);
+    let mut vps = start.vps;
     let mut words = start.words;
     let lent = lent_words(&words, start.lent);
     let formed = well_formed(setup, &levels, &masks, &vps, &words[..lent]);
-    let size = chunk::held_length(&line, start.length);
+    let size = chunk::held_length(&start.line, start.length);
     let shown = answer_line(
         formed,
         setup,
@@ -200,7 +175,7 @@ fn end_later(start: Session, out: &mut [u8]) -> Written
         &mut masks,
         &mut vps,
         &mut words[..lent],
-        &line[..size],
+        &start.line[..size],
     );
     let wrote = listing_record::write_record(out, 0, listing_record::line_number(number), shown);
     let session = after_line(start, next, levels, masks, vps, words);
@@ -212,8 +187,7 @@ pub(crate) fn end_line(start: Session, out: &mut [u8]) -> Written
     requires { longest_record ≤ length out.old }
     ensures { EndedBy (ended (progress_of start)) result out.old out.new }
 {
-    let phase = start.phase;
-    match phase {
+    match start.phase {
         Phase::First => end_first(start, out),
         Phase::Later => end_later(start, out),
         Phase::Stopped => Written {
@@ -243,7 +217,7 @@ pub(crate) fn feed_later(
     let setup = start.setup;
     let mut levels = start.levels;
     let mut masks = start.masks;
-    let mut vps = records(start);
+    let mut vps = start.vps;
     let mut words = start.words;
     let mut line = listing_record::line_number(start.number);
     let lent = lent_words(&words, start.lent);

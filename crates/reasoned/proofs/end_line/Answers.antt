@@ -4,8 +4,8 @@ use Rattle.reasoned.specs.ReasonedSession.{line_text}
 use Rattle.session.specs.Session.{ended}
 use Rattle.reasoned.proofs.end_line.Goals as goal
 
-pub returns-in-Ok : goal.returns-in-Ok
-returns-in-Ok c = rw c.in-Ok.is c.end_first.ensures
+pub returns-in-First : goal.returns-in-First
+returns-in-First c = rw c.in-First.is c.end_first.ensures
 
 pub returns-in-Later : goal.returns-in-Later
 returns-in-Later c = rw c.in-Later.is c.end_later.ensures
@@ -15,4 +15,4 @@ unfolding ended line_text
 returns-in-Stopped c = rw c.in-Stopped.is (record { progress = refl; wrote = refl; written = refl; within = omega arith })
 
 pub end_first-requires : goal.end_first-requires
-end_first-requires c = c.in-Ok.is
+end_first-requires c = c.in-First.is

@@ -2,9 +2,9 @@
 use Rattle.std.proofs.Common.{refl, arith}
 use Rattle.reasoned.proofs.finish_empty.Goals as goal
 
-pub returns-in-Ok : goal.returns-in-Ok
-returns-in-Ok c =
-    rw (c.in-Ok.is, c.requires) c.write_first.ensures
+pub returns-in-First : goal.returns-in-First
+returns-in-First c =
+    rw (c.in-First.is, c.requires) c.write_first.ensures
 
 pub returns-in-Later : goal.returns-in-Later
 returns-in-Later c = rw (c.in-Later.is, c.requires) record { value = refl; out_after = refl; upper_bound = omega arith }

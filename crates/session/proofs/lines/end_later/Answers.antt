@@ -14,9 +14,6 @@ slice_bounds-well_formed-end c = sym (length-take-le _ _ (omega (arith, c.lent_w
 pub slice_bounds-answer_line-end : goal.slice_bounds-answer_line-end
 slice_bounds-answer_line-end c = sym (length-take-le _ _ (omega (arith, c.lent_words-lent.ensures)))
 
-pub slice_bounds-line-end : goal.slice_bounds-line-end
-slice_bounds-line-end c = held-within c.args.start.line c.args.start.length _ c.held_length-size.ensures
-
 pub slice_bounds-answer_line-end-2 : goal.slice_bounds-answer_line-end-2
 slice_bounds-answer_line-end-2 c = sym (length-take-le _ _ (held-within c.args.start.line c.args.start.length _ c.held_length-size.ensures))
 
@@ -30,10 +27,9 @@ returns c =
     let words = c.lent_words-lent in
     let a = c.args in
     let size = c.held_length-size in
-    let rows = c.records-vps in
-    let s = lent a.start.setup a.start.levels a.start.masks rows.result (take words.result a.start.words) in
+    let s = lent a.start.setup a.start.levels a.start.masks a.start.vps (take words.result a.start.words) in
     let e = ended_by a.start.number s _ (take size.result a.start.line) _ w.ensures.next (ap (shown_text a.start.number) w.ensures.shown) in
-    rw (← words.ensures.number, ← rows.ensures, ← held-taken a.start.line a.start.length _ size.ensures)
+    rw (← words.ensures.number, ← held-taken a.start.line a.start.length _ size.ensures)
     (record {
       progress =
           c.after_line-session.ensures

@@ -3,8 +3,8 @@ use Rattle.std.proofs.Common.{refl}
 use Rattle.session.specs.Session.{ended}
 use Rattle.session.proofs.lines.end_line.Goals as goal
 
-pub returns-in-Ok : goal.returns-in-Ok
-returns-in-Ok c = rw c.in-Ok.is c.end_first.ensures
+pub returns-in-First : goal.returns-in-First
+returns-in-First c = rw c.in-First.is c.end_first.ensures
 
 pub returns-in-Later : goal.returns-in-Later
 returns-in-Later c = rw c.in-Later.is c.end_later.ensures

@@ -19,7 +19,7 @@ loop-setup-init c =
     let line = c.line_number-line.ensures in (
       words.size,
       c.well_formed-formed.ensures,
-      rw (words.number, c.records-vps.ensures, line.number) (feeds-start _ _ _ _ _ c.requires.from_in_bounds c.requires.at_in_bounds),
+      rw (words.number, line.number) (feeds-start _ _ _ _ _ c.requires.from_in_bounds c.requires.at_in_bounds),
       own-number line,
     )
 
