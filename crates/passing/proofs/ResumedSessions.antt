@@ -131,21 +131,25 @@ pub resumed-session : ResumedSession
 resumed-session = record { whole = resumed-whole; begun = resumed-begun }
 
 -- What was read, and the session that begins with it.
-module _ (r : Received) (input : List ℕ) (passed : passed_in r input ≡ passed_on (lines input)) where
-  pub opened-refused : r.accepted ≡ false → opened input ≡ opened_by input None
+module _ (read : Option Received) (input : List ℕ) (passed : passed_in read input ≡ passed_on (lines input)) where
+  pub opened-refused : read ≡ None → opened input ≡ opened_by input None
   unfolding opened
-  opened-refused a = let nothing : passed_in r input ≡ None = rw a in ap (opened_by input) (sym passed ∙ nothing)
+  opened-refused e = let nothing : passed_in read input ≡ None = rw e in ap (opened_by input) (sym passed ∙ nothing)
 
-  module _ (a : r.accepted ≡ true) where
+  module _ (r : Received) (e : read ≡ Some r) where
     accepted : passed_on (lines input) ≡ Some (record { state = state_in r; rest = lines (drop r.used input) })
-    accepted = sym passed ∙ rw a
+    accepted = sym passed ∙ rw e
 
-    pub opened-done : Used r input → opened input ≡ record { progress = later 1 (state_in r) []; used = r.used; text = first_done }
+    used-is : Used read input → r.used ≡ min (length (records_text (state_in r))) (length input)
+    used-is used = rw e at used
+
+    pub opened-done : Used read input → opened input ≡ record { progress = later 1 (state_in r) []; used = r.used; text = first_done }
     unfolding opened
-    opened-done used = ap (opened_by input) accepted ∙ ap (λ (n : ℕ). record { progress = later 1 (state_in r) []; used = n; text = first_done }) (sym (used a))
+    opened-done used =
+        ap (opened_by input) accepted ∙ ap (λ (n : ℕ). record { progress = later 1 (state_in r) []; used = n; text = first_done }) (sym (used-is used))
 
-    pub used-within : Used r input → r.used ≤ length input
-    used-within used = omega (arith, used a)
+    pub used-within : Used read input → r.used ≤ length input
+    used-within used = omega (arith, used-is used)
 
     pub few-pages : r.setup.pages ≤ 64
     unfolding machine_of

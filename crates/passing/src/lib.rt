@@ -29,8 +29,7 @@ pub fn consume(start: Session, chunk: &[u8]) -> Session
     while from < chunk.len() {
         let fed = session::feed(s, &chunk[from..], &mut records);
         from += fed.used;
-        let next = fed.session;
-        s = next;
+        s = fed.session;
     }
     s
 }
@@ -64,12 +63,15 @@ fn write_machine(session: Session, out: &mut [u8; LONGEST_TEXT]) -> usize
     ensures out_after { out.new ≡ sets out.old 0 (sent_text (state_in session)) }
     ensures bounds { Bounds 0 result [] out.new }
 {
-    let levels = session.levels;
-    let masks = session.masks;
-    let vps = session::records(session);
-    let words = session.words;
-    let lent = session::lent_words(&words, session.lent);
-    transfer::write::write_records(out, session.setup, &levels, &masks, &vps, &words[..lent])
+    let lent = session::lent_words(&session.words, session.lent);
+    transfer::write::write_records(
+        out,
+        session.setup,
+        &session.levels,
+        &session.masks,
+        &session.vps,
+        &session.words[..lent],
+    )
 }
 
 // Ends a session's script and writes the records of the state that it leaves, or the refusal line where the first line was bad. Returns
@@ -83,8 +85,7 @@ pub fn save(session: Session, out: &mut [u8; LONGEST_TEXT]) -> usize
     let mut record = [0u8; LONGEST_RECORD];
     let ended = session::finish(session, &mut record);
     let last = ended.session;
-    let phase = last.phase;
-    match phase {
+    match last.phase {
         Phase::First => write_line_zero(out, false),
         Phase::Later => write_machine(last, out),
         Phase::Stopped => write_line_zero(out, false),
@@ -96,15 +97,13 @@ fn session_of(received: Received) -> Session
     requires { received.setup.pages ≤ 64 }
     ensures { progress_of result ≡ later 1 (received_state received) [] }
 {
-    let first = received.first;
-    let second = received.second;
-    let third = received.third;
-    let fourth = received.fourth;
-    let vps = [first, second, third, fourth];
-    let levels = received.levels;
-    let masks = received.masks;
-    let words = received.words;
-    session::on_machine(received.setup, levels, masks, vps, words)
+    session::on_machine(
+        received.setup,
+        received.levels,
+        received.masks,
+        received.vps,
+        received.words,
+    )
 }
 
 // Begins a session with the records at the start of an input, and writes their answer, line 0. The input is whole, or its first LONGEST_TEXT
@@ -117,18 +116,16 @@ pub fn open(input: &[u8], out: &mut [u8; LONGEST_RECORD]) -> Fed
     ensures out { out.new ≡ sets out.old 0 (opened input.now).text }
     ensures bounds { Bounds result.used result.wrote input.now out.new }
 {
-    let received = reader::read(input);
-    let wrote = write_line_zero(out, received.accepted);
-    if !received.accepted {
-        return Fed {
+    match reader::read(input) {
+        Some(received) => Fed {
+            session: session_of(received),
+            used: received.used,
+            wrote: write_line_zero(out, true),
+        },
+        None => Fed {
             session: session::refused(),
             used: input.len(),
-            wrote,
-        };
-    }
-    Fed {
-        session: session_of(received),
-        used: received.used,
-        wrote,
+            wrote: write_line_zero(out, false),
+        },
     }
 }

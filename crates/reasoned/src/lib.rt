@@ -26,9 +26,7 @@ mod line_reason; // a later line, with its reason
 fn first_reason(start: Session) -> Reason
     ensures { result ≡ first_reason (line_first (held start.line start.length)) }
 {
-    let line = start.line;
-    let said = chunk::parse_first(&line, start.length);
-    match said {
+    match chunk::parse_first(&start.line, start.length) {
         Ok(first) => {
             if state::fresh::admissible(first) {
                 return Reason::Nothing;
@@ -74,16 +72,15 @@ fn end_later(start: Session, out: &mut [u8; LONGEST_REASONED]) -> Written
     ensures { EndedWith (later start.number (state_in start) (held start.line start.length)) result
         out.old out.new }
 {
-    let line = start.line;
     let number = start.number;
     let next = std::num::wrapping_add_u64(number, 1);
     let mut levels = start.levels;
     let mut masks = start.masks;
-    let mut vps = session::records(start);
+    let mut vps = start.vps;
     let mut words = start.words;
     let lent = session::lent_words(&words, start.lent);
-    let size = chunk::held_length(&line, start.length);
-    let parsed = script::parse(&line[..size]);
+    let size = chunk::held_length(&start.line, start.length);
+    let parsed = script::parse(&start.line[..size]);
     let told = tell(
         start.setup,
         &mut levels,
@@ -92,9 +89,7 @@ fn end_later(start: Session, out: &mut [u8; LONGEST_REASONED]) -> Written
         &mut words[..lent],
         parsed,
     );
-    let shown = told.shown;
-    let why = told.why;
-    let wrote = write_line(out, number, shown, why);
+    let wrote = write_line(out, number, told.shown, told.why);
     let session = session::after_line(start, next, levels, masks, vps, words);
     Written { session, wrote }
 }
@@ -103,8 +98,7 @@ fn end_later(start: Session, out: &mut [u8; LONGEST_REASONED]) -> Written
 fn end_line(start: Session, out: &mut [u8; LONGEST_REASONED]) -> Written
     ensures { EndedWith (progress_of start) result out.old out.new }
 {
-    let phase = start.phase;
-    match phase {
+    match start.phase {
         Phase::First => end_first(start, out),
         Phase::Later => end_later(start, out),
         Phase::Stopped => Written {
@@ -137,9 +131,8 @@ pub fn feed_line(start: Session, chunk: &[u8], out: &mut [u8; LONGEST_REASONED])
     }
     let line = session::keep(start, &chunk[..end]);
     let ended = end_line(line, out);
-    let session = ended.session;
     Fed {
-        session,
+        session: ended.session,
         used: end + 1,
         wrote: ended.wrote,
     }
@@ -151,8 +144,7 @@ pub fn finish(start: Session, out: &mut [u8; LONGEST_REASONED]) -> usize
     ensures out { out.new ≡ sets out.old 0 (last_told (progress_of start)) }
     ensures bounds { Bounds 0 result [] out.new }
 {
-    let line = start.line;
-    let held = chunk::held_length(&line, start.length);
+    let held = chunk::held_length(&start.line, start.length);
     if held == 0 {
         return finish_empty(start, out);
     }
@@ -167,8 +159,7 @@ fn finish_empty(start: Session, out: &mut [u8; LONGEST_REASONED]) -> usize
     ensures out_after { out.new ≡ sets out.old 0 (last_told (progress_of start)) }
     ensures upper_bound { result ≤ length out.new }
 {
-    let phase = start.phase;
-    match phase {
+    match start.phase {
         Phase::First => write_first(out, 1, Reason::EmptyInput),
         Phase::Later => 0,
         Phase::Stopped => 0,

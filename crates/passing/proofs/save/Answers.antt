@@ -4,11 +4,11 @@ use native.Mathlib.Omega.{arith}
 use Rattle.passing.proofs.SavedSessions.{line-zero-within}
 use Rattle.passing.proofs.save.Goals as goal
 
-pub returns-in-Ok : goal.returns-in-Ok
-returns-in-Ok c =
+pub returns-in-First : goal.returns-in-First
+returns-in-First c =
     let wrote = c.write_line_zero.ensures in
     let bounds = line-zero-within {used = 0} {input = []} c.args.out.now 1 (omega arith) (omega (arith, c.write_line_zero-arg-1.given)) wrote.value wrote.out_after in
-    rw (← c.finish-ended.ensures.session, c.in-Ok.is) record { wrote = wrote.value; out = wrote.out_after; bounds = bounds }
+    rw (← c.finish-ended.ensures.session, c.in-First.is) record { wrote = wrote.value; out = wrote.out_after; bounds = bounds }
 
 pub returns-in-Later : goal.returns-in-Later
 returns-in-Later c =

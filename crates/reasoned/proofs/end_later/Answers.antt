@@ -8,9 +8,6 @@ use Rattle.state.specs.Lent.{lent}
 use Rattle.reasoned.proofs.end_later.Goals as goal
 
 -- The bytes of the line that are held.
-pub slice_bounds-line-end : goal.slice_bounds-line-end
-slice_bounds-line-end c = let s = c.args.start in held-within s.line s.length _ c.held_length-size.ensures
-
 pub slice_bounds-parse-end : goal.slice_bounds-parse-end
 slice_bounds-parse-end c =
     let s = c.args.start in
@@ -24,9 +21,9 @@ returns c =
     let a = c.args in
     let w = c.tell-told.ensures in
     let line = take c.held_length-size.result a.start.line in
-    let s = lent a.start.setup a.start.levels a.start.masks c.records-vps.result (take c.lent_words-lent.result a.start.words) in
+    let s = lent a.start.setup a.start.levels a.start.masks c.args.start.vps (take c.lent_words-lent.result a.start.words) in
     let text = later-text a.start.number s line _ _ _ c.parse-parsed.ensures w.shown w.why in
-    rw (← c.lent_words-lent.ensures.number, ← c.records-vps.ensures, ← held-taken a.start.line a.start.length _ c.held_length-size.ensures)
+    rw (← c.lent_words-lent.ensures.number, ← held-taken a.start.line a.start.length _ c.held_length-size.ensures)
     (record {
       progress =
           c.after_line-session.ensures
