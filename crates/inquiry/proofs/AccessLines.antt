@@ -48,12 +48,12 @@ abbrev first_three : Bool → Bool → Bool → Answer → Answer
 first_three a b c more = cond a (Refused Refusal.NoSuchProcessor) (cond b (Refused Refusal.NoSuchMode) (cond c (Refused Refusal.NoSuchPage) more))
 
 -- One of them holds.
-data Some (a b c : Bool) : Type 0 where
-  one : a ≡ true → Some a b c
-  two : b ≡ true → Some a b c
-  three : c ≡ true → Some a b c
+data Outside (a b c : Bool) : Type 0 where
+  one : a ≡ true → Outside a b c
+  two : b ≡ true → Outside a b c
+  three : c ≡ true → Outside a b c
 
-is_one : (a b c : Bool) (more : Answer) → Some a b c → eqb (number_of (first_three a b c more)) 1 ≡ true
+is_one : (a b c : Bool) (more : Answer) → Outside a b c → eqb (number_of (first_three a b c more)) 1 ≡ true
 is_one true b c more h = refl
 is_one false true c more h = refl
 is_one false false true more h = refl
@@ -62,7 +62,7 @@ is_one false false false more (two h) = absurd (false≢true h)
 is_one false false false more (three h) = absurd (false≢true h)
 
 module _ (s : State) (w : well_formed s ≡ true) (v : Processor) (mode : ℕ) (p : Page) where
-  outside : (access : Access) (x : ℕ) → Some (leb (processors s) v.0) (ltb 1 mode) (leb (pages s) p.0)
+  outside : (access : Access) (x : ℕ) → Outside (leb (processors s) v.0) (ltb 1 mode) (leb (pages s) p.0)
       → eqb (number_of (step s (Made v mode (accessed access p x))).answer) 1 ≡ true
   unfolding step ruled rule rule_of first_of
   outside Access.Read x h = rw w (is_one _ _ _ _ h)

@@ -1,5 +1,5 @@
 -- What is written of an input, line by line. Assumes nothing.
-use Rattle.std.specs.Prelude.{None, Some}
+use Rattle.std.specs.Prelude.{Option, None, Some}
 use mathlib.Core.Bool.{true, false}
 use mathlib.Core.List.{List, []}
 use mathlib.Core.Path.{◌≡◌, refl, sym, ap, ◌∙◌}
@@ -49,14 +49,14 @@ module _ (e : Explanation) (input : List ℕ) (from : ℕ) where
         rw (lines_next input from end is h, next, lines_next input (end + 1) (line_end input (end + 1)) refl k)
 
 -- The records, the access line and what follows it.
-module _ (r : Received) (input : List ℕ) (passed : passed_in r input ≡ passed_on (lines input)) where
-  pub none_read : r.accepted ≡ false → explained input ≡ ended refusal
+module _ (read : Option Received) (input : List ℕ) (passed : passed_in read input ≡ passed_on (lines input)) where
+  pub none_read : read ≡ None → explained input ≡ ended refusal
   unfolding explained
-  none_read a = let nothing : passed_in r input ≡ None = rw a in ap of_passed (sym passed ∙ nothing)
+  none_read e = let nothing : passed_in read input ≡ None = rw e in ap of_passed (sym passed ∙ nothing)
 
-  module _ (a : r.accepted ≡ true) where
+  module _ (r : Received) (e : read ≡ Some r) where
     were-read : passed_on (lines input) ≡ Some (record { state = state_in r; rest = lines (drop r.used input) })
-    were-read = sym passed ∙ rw a
+    were-read = sym passed ∙ rw e
 
     explained-by : explained input ≡ of_lines (state_in r) (lines (drop r.used input))
     unfolding explained

@@ -57,9 +57,9 @@ unfolding verdict verdict_lines good_form
 long-sheet e sheet h = rw (lt-leb (length sheet) 256 h)
 
 -- Whatever a line asks for, it is refused where what follows is.
-refused-with : (s : State) (a : Asked) (more : List (List ℕ)) → ((e : Explanation) → sheet_with e more ≡ ended refusal) → of_asked s a more ≡ ended refusal
+refused-with : (s : State) (a : Option Asked) (more : List (List ℕ)) → ((e : Explanation) → sheet_with e more ≡ ended refusal) → of_asked s a more ≡ ended refusal
 refused-with s None more h = refl
-refused-with s (asks v mode p access) more h = h _
+refused-with s (Some q) more h = h _
 
 refused-line : (s : State) (said : Result Event Refusal) (more : List (List ℕ)) → of_asked s (asked_by said) more ≡ ended refusal → of_line s said more ≡ ended refusal
 refused-line s said more h = rw h (either_way (eqb (number_of (answered s said).answer) 1))

@@ -1,9 +1,9 @@
 -- Demand 3: two runs that differ only in what is hidden. Each is followed beside the run of its hidden state, and the two hidden
 -- states are the same. Assumes nothing.
-use Rattle.std.specs.Prelude.{None, Option, Some}
 use mathlib.Core.Path.{◌≡◌, refl, sym, ap, ◌∙◌}
 use mathlib.Core.Bool.{Bool, true, false, not, cond, ◌&&◌, ◌||◌, false≢true, and-false}
 use mathlib.Core.List.{List, [], ◌∷◌}
+use mathlib.Core.Option.{Option, none, some}
 use Prim.Native.Nat.{ℕ, ◌≤◌}
 use lib.Dec.{leb, ltb, eqb}
 use lib.ListN.{get_or}
@@ -42,8 +42,8 @@ module _ (K : ℕ) (k : 1 ≤ K) (E : ℕ → Bool) (H : ℕ → Bool) (o : Stat
 
   quiet_maker-same : (s : State) (v : Option ℕ) → quiet_maker K (hide K E H s) v ≡ quiet_maker K s v
   unfolding quiet_maker
-  quiet_maker-same s None = refl
-  quiet_maker-same s (Some v) = simp (processors-same, active-hide)
+  quiet_maker-same s none = refl
+  quiet_maker-same s (some v) = simp (processors-same, active-hide)
 
   -- One step on: the state reached there.
   onward : (s : State) (e : Event) → Moved K o s → well_moded s ≡ true → quiet_maker K s (maker e) ≡ true → Moved K o (step s e).next × (well_moded (step s e).next ≡ true)

@@ -5,5 +5,5 @@ use Rattle.inquiry.proofs.explain_on.Goals as goal
 
 pub returns : goal.returns
 returns c =
-    let r = c.args.received in
+    let r = c.args.received.now in
     sym (c.explain_in.ensures (take r.setup.pages r.words))
