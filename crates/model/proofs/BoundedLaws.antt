@@ -90,6 +90,18 @@ least-found (suc n) f h = go (f 0) refl (least-found n (λ i. f (suc i))) h
     go true e r l = e
     go false e r l = r (omega arith)
 
+-- A number that passes, with none below it that does, is what `least` finds.
+pub least-is : (n m : ℕ) (f : ℕ → Bool) → m < n → f m ≡ true → ((k : ℕ) → k < m → f k ≡ false) → least n f ≡ m
+unfolding least
+least-is zero m f l e h = absurd (omega arith)
+least-is (suc n) zero f l e h = rw e
+least-is (suc n) (suc m) f l e h = rw (h 0 (omega arith), least-is n m (λ i. f (suc i)) (omega arith) e (λ k q. h (suc k) (omega arith)))
+
+pub least-none : (n : ℕ) (f : ℕ → Bool) → ((k : ℕ) → k < n → f k ≡ false) → least n f ≡ n
+unfolding least
+least-none zero f h = refl
+least-none (suc n) f h = rw (h 0 (omega arith), least-none n (λ i. f (suc i)) (λ k q. h (suc k) (omega arith)))
+
 -- What `highest` finds is below n and passes.
 pub highest-found : (n : ℕ) (f : ℕ → Bool) → eqb (highest n f) 0 ≡ false → (highest n f < n) × (f (highest n f) ≡ true)
 unfolding highest

@@ -10,8 +10,9 @@ ghost use Rattle.processor.specs.Record.{vp_of, lock_cleared};
 use crate::record;
 use crate::record::Record;
 use model::machine::Shape;
-use model::quantity::{Level, NO_LEVEL};
+use model::quantity::{LEVEL_COUNT, Level};
 use model::set::{LevelSet, level_set};
+use word::register_word::RegisterWord;
 use word::registers::SecureConfig;
 
 // The TLB lock in a configuration word. Only this bit is cleared: a word that is packed anew would lose its reserved bits.
@@ -24,7 +25,7 @@ pub fn secure_of(shape: Shape, vp: &Record, holder: Level, lower: Level) -> u64
     if lower.0 >= holder.0 {
         return 0;
     }
-    if lower.0 >= NO_LEVEL {
+    if lower.0 >= LEVEL_COUNT {
         return 0;
     }
     record::level_word(shape, vp, holder, record::SECURE + lower.0)
@@ -70,7 +71,7 @@ pub fn holds_lock(shape: Shape, vp: &Record, level: Level) -> bool
 pub fn set_secure(shape: Shape, vp: &mut Record, holder: Level, lower: Level, value: u64)
     ensures { vp_of vp.new ≡ set_secure shape (vp_of vp.old) holder.0 lower.0 value }
 {
-    if lower.0 >= NO_LEVEL {
+    if lower.0 >= LEVEL_COUNT {
         return;
     }
     record::set_level_word(shape, vp, holder, record::SECURE + lower.0, value);
