@@ -1,5 +1,6 @@
 -- What a search for a level answers, as a number and as an option. Assumes nothing.
-use Rattle.std.proofs.Common.{◌≡◌, ℕ, ◌<◌, Bool, true, false, cond, eqb, ltb, refl, lt-ltb}
+use Rattle.std.proofs.Common.{◌≡◌, ℕ, ◌<◌, Bool, true, false, cond, not, eqb, ltb, refl, lt-ltb}
+use Rattle.std.specs.Option.{is_some}
 use Rattle.std.specs.Prelude.{Option, Some, None}
 use Rattle.model.specs.Bounded.{least}
 use Rattle.model.specs.State.{Level, level, level_found, above_zero}
@@ -47,3 +48,11 @@ number-zero n h = go (eqb n 0) refl h
     go : (b : Bool) → eqb n 0 ≡ b → ◌≡◌ {A = Option ℕ} (cond b None (Some n)) None → eqb n 0 ≡ true
     go true e q = e
     go false e q = absurd cc
+
+pub some-above : (n : ℕ) → is_some (above_zero n) ≡ not (eqb n 0)
+unfolding above_zero
+some-above n = go (eqb n 0)
+  where
+    go : (b : Bool) → is_some (cond b None (Some n)) ≡ not b
+    go true = refl
+    go false = refl
