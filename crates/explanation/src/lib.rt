@@ -17,7 +17,7 @@ ghost use Rattle.explanation.specs.Explained.{receiver_by, is_fetch, denial_by, 
 use access_events::Request;
 use access_events::mbec::counted_set;
 use model::machine::{Setup, Shape};
-use model::quantity::{Access, Level, Mode, NO_LEVEL, Processor};
+use model::quantity::{Access, Level, Mode, Processor};
 use model::set::{LevelSet, in_set};
 use partition::access::{Attempt, denying_set, host_denies, lowest, needed};
 use partition::level::Levels;
@@ -57,12 +57,10 @@ fn receiver_of(shape: Shape, vp: &Record, denying: LevelSet) -> Receiver
     ensures { result
         ≡ receiver_by (lowest_in denying.0 (bits 4 (λ l. enabled_at shape (vp_of vp.now) l))) }
 {
-    let enabled = enabled_set(shape, vp);
-    let level = lowest(denying, enabled);
-    if level.0 < NO_LEVEL {
-        return Receiver::By(level);
+    match lowest(denying, enabled_set(shape, vp)) {
+        Some(level) => Receiver::By(level),
+        None => Receiver::Nobody,
     }
-    Receiver::Nobody
 }
 
 // Is it a fetch?

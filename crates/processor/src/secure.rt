@@ -61,10 +61,7 @@ pub fn mbec_set(shape: Shape, vp: &Record, level: Level) -> LevelSet
 pub fn holds_lock(shape: Shape, vp: &Record, level: Level) -> bool
     ensures { result ≡ any 4 (λ t. bit (secure_of shape (vp_of vp.now) t level.0) lock_bit) }
 {
-    let one = has_lock(shape, vp, Level(1), level);
-    let two = has_lock(shape, vp, Level(2), level);
-    let three = has_lock(shape, vp, Level(3), level);
-    one | two | three
+    (1..LEVEL_COUNT).any(|number| has_lock(shape, vp, Level(number), level))
 }
 
 // secure: sets the holder's configuration of the lower level.
@@ -89,8 +86,7 @@ fn clear_lock(shape: Shape, vp: &mut Record, holder: Level, lower: Level)
 pub fn unlock(shape: Shape, vp: &mut Record, level: Level)
     ensures { vp_of vp.new ≡ unlocked shape (vp_of vp.old) level.0 }
 {
-    clear_lock(shape, vp, level, Level(0));
-    clear_lock(shape, vp, level, Level(1));
-    clear_lock(shape, vp, level, Level(2));
-    clear_lock(shape, vp, level, Level(3));
+    for number in 0..LEVEL_COUNT {
+        clear_lock(shape, vp, level, Level(number));
+    }
 }
