@@ -12,7 +12,7 @@ ghost use Rattle.access_events.specs.Access.{accessed, access_value, words_done,
 
 use model::answer::{Answer, Refusal};
 use model::machine::{BY_INTERRUPT, Setup};
-use model::quantity::{Access, Mode, NO_LEVEL, Page};
+use model::quantity::{Access, Mode, Page};
 use partition::access::{Attempt, denying_set, host_denies, lowest};
 use partition::level::Levels;
 use partition::mask::Masks;
@@ -32,19 +32,14 @@ pub struct Request {
 fn word_at(words: &[u64], page: Page) -> u64
     ensures { result ≡ get_or words.now page.0 0 }
 {
-    let i = page.0 as usize;
-    if i < words.len() { words[i] } else { 0 }
+    words.get(page.0 as usize).copied().unwrap_or(0)
 }
 
 // The value of an access that is done, with the page's word.
 fn access_value(access: Access, word: u64) -> u64
     ensures { result ≡ access_value access word }
 {
-    match access {
-        Access::Read => word,
-        Access::Write => 0,
-        Access::Fetch => 0,
-    }
+    if access == Access::Read { word } else { 0 }
 }
 
 // A write that is done stores its word; another access leaves the words.
@@ -52,14 +47,8 @@ fn store_word(words: &mut [u64], page: Page, access: Access, value: u64)
     ensures { words.new ≡ words_done words.old page.0 access value }
 {
     let i = page.0 as usize;
-    match access {
-        Access::Read => {}
-        Access::Write => {
-            if i < words.len() {
-                words[i] = value;
-            }
-        }
-        Access::Fetch => {}
+    if (access == Access::Write) & (i < words.len()) {
+        words[i] = value;
     }
 }
 
@@ -103,8 +92,7 @@ pub fn access(
         mbec::counting_set(shape, vp, attempt),
         attempt,
     );
-    let receiver = lowest(denying, enabled_set(shape, vp));
-    if receiver.0 < NO_LEVEL {
+    if let Some(receiver) = lowest(denying, enabled_set(shape, vp)) {
         entry::enter(shape, vp, receiver, BY_INTERRUPT);
         return Answer::Intercept(receiver);
     }

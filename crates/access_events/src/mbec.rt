@@ -29,11 +29,7 @@ pub fn smep_allows(shape: Shape, vp: &Record, level: Level) -> bool
 fn is_user_fetch(mode: Mode, access: Access) -> bool
     ensures { result ≡ is_user_fetch mode access }
 {
-    match access {
-        Access::Read => false,
-        Access::Write => false,
-        Access::Fetch => is_user(mode),
-    }
+    (access == Access::Fetch) & is_user(mode)
 }
 
 // The levels whose MBEC counts for the acting level.

@@ -6,12 +6,13 @@ ghost use Rattle.std.specs.Prelude.{◌≡◌, not, ◌&&◌, if◌then◌else�
 ghost use Rattle.model.specs.Entry.{by_call, enter, highest_ready, next_up, advanced, left};
 ghost use Rattle.model.specs.Entry.{waiting, reentered, returned, interrupted};
 ghost use Rattle.model.specs.Registers.{rax, rcx, shared_of};
-ghost use Rattle.model.specs.State.{active_of, context, enabled_at};
+ghost use Rattle.std.specs.Option.{option_map};
+ghost use Rattle.model.specs.State.{above_zero, active_of, context, enabled_at, level, level_found};
 ghost use Rattle.model.specs.Updates.{set_shared};
 ghost use Rattle.processor.specs.Record.{vp_of};
 
 use model::machine::{BY_CALL, BY_INTERRUPT, Control, Shape};
-use model::quantity::{Level, NO_LEVEL};
+use model::quantity::{LEVEL_COUNT, Level};
 use model::register;
 use processor::control::{control_of, set_control};
 use processor::record::Record;
@@ -34,32 +35,6 @@ pub fn enter(shape: Shape, vp: &mut Record, level: Level, reason: u64)
     record::set_active(vp, level);
 }
 
-// The least of the levels 1 to 3 that is chosen; NO_LEVEL if none is.
-fn least_of(one: bool, two: bool, three: bool) -> Level
-    ensures { result.0 ≡ (if one then 1 else (if two then 2 else (if three then 3 else 4))) }
-{
-    if one {
-        return Level(1);
-    }
-    if two {
-        return Level(2);
-    }
-    if three { Level(3) } else { Level(NO_LEVEL) }
-}
-
-// The highest of the levels 1 to 3 that is chosen; 0 if none is.
-fn highest_of(one: bool, two: bool, three: bool) -> Level
-    ensures { result.0 ≡ (if three then 3 else (if two then 2 else (if one then 1 else 0))) }
-{
-    if three {
-        return Level(3);
-    }
-    if two {
-        return Level(2);
-    }
-    if one { Level(1) } else { Level(0) }
-}
-
 // Is the level above the active one, and enabled?
 fn is_above(shape: Shape, vp: &Record, active: Level, level: Level) -> bool
     ensures { result ≡ (nat_lt active.0 level.0 && enabled_at shape (vp_of vp.now) level.0) }
@@ -67,16 +42,18 @@ fn is_above(shape: Shape, vp: &Record, active: Level, level: Level) -> bool
     (active.0 < level.0) & record::enabled_at(shape, vp, level)
 }
 
-// The next enabled level above the active one; its number is NO_LEVEL if there is none.
-pub fn next_up(shape: Shape, vp: &Record) -> Level
-    ensures { result.0 ≡ next_up shape (vp_of vp.now) }
+// The next enabled level above the active one.
+pub fn next_up(shape: Shape, vp: &Record) -> Option<Level>
+    ensures { result ≡ level_found (next_up shape (vp_of vp.now)) }
 {
     let active = record::active_of(vp);
-    least_of(
-        is_above(shape, vp, active, Level(1)),
-        is_above(shape, vp, active, Level(2)),
-        is_above(shape, vp, active, Level(3)),
-    )
+    for number in 1..LEVEL_COUNT {
+        let level = Level(number);
+        if is_above(shape, vp, active, level) {
+            return Some(level);
+        }
+    }
+    None
 }
 
 // Moves the active level's RIP on by the length, modulo 2^64.
@@ -138,29 +115,28 @@ fn is_waiting(shape: Shape, vp: &Record, active: Level, level: Level) -> bool
         ≡ (nat_lt active.0 level.0 && enabled_at shape q level.0
         && not (highest_ready (context shape q level.0) == 0)) }
 {
-    if is_above(shape, vp, active, level) {
-        return interrupt::highest_ready(shape, vp, level) != 0;
-    }
-    false
+    is_above(shape, vp, active, level) && interrupt::highest_ready(shape, vp, level).is_some()
 }
 
-// The highest level above the active one that is enabled with a ready vector; 0 if there is none.
-fn waiting(shape: Shape, vp: &Record) -> Level
-    ensures { result.0 ≡ waiting shape (vp_of vp.now) }
+// The highest level above the active one that is enabled with a ready vector.
+fn waiting(shape: Shape, vp: &Record) -> Option<Level>
+    ensures { result ≡ option_map level (above_zero (waiting shape (vp_of vp.now))) }
 {
     let active = record::active_of(vp);
-    let one = is_waiting(shape, vp, active, Level(1));
-    let two = is_waiting(shape, vp, active, Level(2));
-    let three = is_waiting(shape, vp, active, Level(3));
-    highest_of(one, two, three)
+    for number in (1..LEVEL_COUNT).rev() {
+        let level = Level(number);
+        if is_waiting(shape, vp, active, level) {
+            return Some(level);
+        }
+    }
+    None
 }
 
 // ret: that level is entered by interrupt.
 fn reenter(shape: Shape, vp: &mut Record)
     ensures { vp_of vp.new ≡ reentered shape (vp_of vp.old) }
 {
-    let level = waiting(shape, vp);
-    if level.0 != 0 {
+    if let Some(level) = waiting(shape, vp) {
         enter(shape, vp, level, BY_INTERRUPT);
     }
 }

@@ -45,10 +45,9 @@ pub fn call(shape: Shape, vp: &mut Record, mode: Mode, length: u64) -> Answer
     if !(shared_of(vp, RCX) == 0) {
         return Answer::Refused(Refusal::RcxNotZero);
     }
-    let next = entry::next_up(shape, vp);
-    if next.0 == quantity::NO_LEVEL {
+    let Some(next) = entry::next_up(shape, vp) else {
         return Answer::Refused(Refusal::NoHigherLevel);
-    }
+    };
     entry::vtl_call(shape, vp, next, length);
     Answer::Done(next.0)
 }
@@ -166,10 +165,9 @@ pub fn ack(shape: Shape, vp: &mut Record, mode: Mode) -> Answer
         return Answer::Refused(Refusal::UserMode);
     }
     let actor = active_of(vp);
-    let vector = interrupt::highest_ready(shape, vp, actor);
-    if vector == 0 {
+    let Some(vector) = interrupt::highest_ready(shape, vp, actor) else {
         return Answer::Refused(Refusal::NoReadyVector);
-    }
+    };
     if !has_bit(private_of(shape, vp, actor, RFLAGS), INTERRUPT_BIT) {
         return Answer::Refused(Refusal::InterruptFlagClear);
     }

@@ -17,14 +17,14 @@ use Rattle.model.specs.declared.quantity.Page.{Page}
 use Rattle.model.specs.declared.set.LevelSet.{LevelSet}
 use Rattle.model.specs.Bounded.{bits}
 use Rattle.model.specs.Memory.{mbec_on, smep_allows, mbec_counts, denies, denied, receiver, host_denies, host_denies_by}
-use Rattle.model.specs.State.{State, level, vp, active_of, active, enabled_at, enabled_on, mask_in, mask_of, host_mask_of, secure_of, mbec_bit}
+use Rattle.model.specs.State.{State, level, vp, active_of, active, enabled_at, enabled_on, mask_in, mask_of, host_mask_of, secure_of, mbec_bit, level_found}
 use Rattle.partition.proofs.DenyingLevels.{mbecs_on, attempt_on, denying_on, denied-of, receiver-of}
 use Rattle.partition.specs.Denying.{denying_set, lowest_in}
 use Rattle.promise.specs.Promise.{Acts}
 use Rattle.access_events.specs.Counting.{counted_set}
 use Rattle.explanation.specs.declared.Denial.{Denial}
 use Rattle.explanation.specs.declared.Explanation.TheVariants.{Levels}
-use Rattle.explanation.specs.Explained.{receiver_by, denial_by, denial_of, host_only, explanation_of}
+use Rattle.explanation.specs.Explained.{denial_by, denial_of, host_only, explanation_of}
 
 -- The set of the levels whose MBEC is on, where SMEP allows it to count, has each level whose MBEC counts.
 no-levels : bits 4 (λ t. false) ≡ 0
@@ -82,6 +82,6 @@ module _ {z : Shape} {P : ℕ} {x : Partition} {p : VirtualProcessor} {s : State
 
   -- Some level does.
   pub levels-explained : eqb denying 0 ≡ false
-      → explanation_of s v mode page.0 access ≡ Levels (receiver_by (lowest_in denying (bits 4 (λ t. enabled_at z p t)))) (denial_at 1) (denial_at 2) (denial_at 3)
+      → explanation_of s v mode page.0 access ≡ Levels (level_found (lowest_in denying (bits 4 (λ t. enabled_at z p t)))) (denial_at 1) (denial_at 2) (denial_at 3)
   unfolding explanation_of
   levels-explained some = rw (denied-is, some, receiver-is, denial-is 1 (omega arith), denial-is 2 (omega arith), denial-is 3 (omega arith))

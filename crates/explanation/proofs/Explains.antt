@@ -24,14 +24,14 @@ use Rattle.model.specs.Answers.{number_of, value_of, first_of}
 use Rattle.model.specs.Events.{by_access}
 use Rattle.model.specs.Masks.{protects_in}
 use Rattle.model.specs.Memory.{needed, mbec_counts, denies_in, denies, denied, receiver, host_denies}
-use Rattle.model.specs.State.{State, level, no_level, processors, shape, pages, partition, active, is_level, config_in, enabled_on, mask_of, word_of}
+use Rattle.model.specs.State.{State, level, no_level, processors, shape, pages, partition, active, is_level, config_in, enabled_on, mask_of, word_of, level_found}
 use Rattle.model.specs.Step.{rule_of, rule, ruled, mode_of, step}
 use Rattle.model.specs.WellFormed.{well_formed}
 use Rattle.access_events.specs.Access.{accessed, access_value}
 use Rattle.explanation.specs.declared.Denial.{Denial}
 use Rattle.explanation.specs.declared.Explanation.{Explanation}
 use Rattle.explanation.specs.declared.Explanation.TheVariants.{Allowed, Host, Levels}
-use Rattle.explanation.specs.Explained.{receiver_by, is_fetch, denial_by, denial_of, explanation_of}
+use Rattle.explanation.specs.Explained.{is_fetch, denial_by, denial_of, explanation_of}
 use Rattle.explanation.specs.ExplainedClaims.{DeniedTo, Explains, AnswerExplained, denial_in, is_denial, DenialsShown, FitsIn, DenialsFit}
 
 -- The answer that an explanation is of; x is the value of an access that is done.
@@ -101,7 +101,7 @@ module _ (s : State) (v : ℕ) (mode : Mode) (p : ℕ) (access : Access) where
       sym (any_at 4 at q l low) ∙ and_left (at l) (enabled_on s v l) (least-found 4 (λ t. at t && enabled_on s v t) low)
 
   answer-explained : (x : ℕ) → p < pages s → first_of (by_access s v mode p access) (Done x) ≡ answer_by (explanation_of s v mode p access) x
-  unfolding first_of explanation_of
+  unfolding first_of explanation_of level_found
   answer-explained x h =
       rw (lt-leb (pages s) p h)
       (in-turn (ltb (receiver s v mode p access) no_level) (denied s v mode p access) (host_denies s p access) (receiver s v mode p access)
@@ -155,7 +155,7 @@ module _ (s : State) (v : ℕ) (mode : Mode) (p : ℕ) (access : Access) where
 
   shown : (t : ℕ) → denial_in (explanation_of s v mode p access) t ≡ denial_of s v mode p access t
   unfolding explanation_of
-  shown = in_place (denied s v mode p access) (host_denies s p access) (receiver_by (receiver s v mode p access)) refl
+  shown = in_place (denied s v mode p access) (host_denies s p access) (level_found (receiver s v mode p access)) refl
 
 -- A level that denies has a denial.
 denial-test : (b : Bool) (mask : ℕ) (mbec : Bool) (mode : Mode) (access : Access) → is_denial (denial_by b mask mbec mode access) ≡ b

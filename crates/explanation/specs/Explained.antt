@@ -1,17 +1,13 @@
 -- Why an access is allowed or denied (02, request 3). Who denies, which bit is wanted and who receives the intercept is asked by the
 -- definitions that the access itself is decided by (01, "Memory"). Assumes nothing.
-use Rattle.std.specs.Prelude.{Bool, true, false, cond, ◌&&◌, ℕ, ◌^◌, ltb, Option, None, Some}
+use Rattle.std.specs.Prelude.{Bool, true, false, cond, ◌&&◌, ℕ, ◌^◌, Option, None, Some}
 use Rattle.model.specs.declared.quantity.Access.{Access}
 use Rattle.model.specs.declared.quantity.Mode.{Mode}
 use Rattle.model.specs.Memory.{needed, mbec_counts, denies, denied, receiver, host_denies}
-use Rattle.model.specs.State.{State, level, no_level, active, mask_of}
+use Rattle.model.specs.State.{State, level_found, active, mask_of}
 use Rattle.explanation.specs.declared.Denial.{Denial}
 use Rattle.explanation.specs.declared.Explanation.{Explanation}
 use Rattle.model.specs.declared.quantity.Level.{Level}
-
--- The receiving level or `none`. A search for a level gives l.
-abbrev pub receiver_by : ℕ → Option Level
-receiver_by l = cond (ltb l no_level) (Some (level l)) None
 
 -- MBEC is told of a fetch, user or kernel, and of no other access.
 abbrev pub is_fetch : Access → Bool
@@ -43,5 +39,5 @@ unfoldable pub explanation_of : State → ℕ → Mode → ℕ → Access → Ex
 explanation_of s v mode p access =
     let denial = denial_of s v mode p access in
     cond (denied s v mode p access)
-    (Explanation.Levels (receiver_by (receiver s v mode p access)) (denial 1) (denial 2) (denial 3))
+    (Explanation.Levels (level_found (receiver s v mode p access)) (denial 1) (denial 2) (denial 3))
     (host_only (host_denies s p access))

@@ -6,18 +6,18 @@ ghost use Rattle.std.specs.Prelude.{◌≡◌, List, ℕ, ◌^◌};
 ghost use Rattle.word.specs.Field.{bit};
 ghost use Rattle.model.specs.Bounded.{bits};
 ghost use Rattle.model.specs.Memory.{needed as needed_bit};
-ghost use Rattle.model.specs.State.{State, vp as vp_in, active_of, enabled_at, mask_in, host_mask_of};
+ghost use Rattle.model.specs.State.{level_found, State, vp as vp_in, active_of, enabled_at, mask_in, host_mask_of};
 ghost use Rattle.partition.specs.Denying.{lowest_in};
 ghost use Rattle.partition.specs.PartitionView.{partition_of};
 ghost use Rattle.processor.specs.Record.{vp_of};
 ghost use Rattle.promise.specs.Promise.{Acts};
 ghost use Rattle.state.specs.Lent.{lent};
-ghost use Rattle.explanation.specs.Explained.{receiver_by, is_fetch, denial_by, host_only, explanation_of};
+ghost use Rattle.explanation.specs.Explained.{is_fetch, denial_by, host_only, explanation_of};
 
 use access_events::Request;
 use access_events::mbec::counted_set;
 use model::machine::{Setup, Shape};
-use model::quantity::{Access, Level, Mode, NO_LEVEL, Processor};
+use model::quantity::{Access, Level, Mode, Processor};
 use model::set::{LevelSet, in_set};
 use partition::access::{Attempt, denying_set, host_denies, lowest, needed};
 use partition::level::Levels;
@@ -50,14 +50,9 @@ pub enum Explanation {
 // The lowest of the levels that deny which is enabled on the processor, if one is.
 fn receiver_of(shape: Shape, vp: &Record, denying: LevelSet) -> Option<Level>
     ensures { result
-        ≡ receiver_by (lowest_in denying.0 (bits 4 (λ l. enabled_at shape (vp_of vp.now) l))) }
+        ≡ level_found (lowest_in denying.0 (bits 4 (λ l. enabled_at shape (vp_of vp.now) l))) }
 {
-    let enabled = enabled_set(shape, vp);
-    let level = lowest(denying, enabled);
-    if level.0 < NO_LEVEL {
-        return Some(level);
-    }
-    None
+    lowest(denying, enabled_set(shape, vp))
 }
 
 // Is it a fetch?

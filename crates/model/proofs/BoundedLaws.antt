@@ -1,9 +1,10 @@
 -- Laws of the tests and searches below a bound. Assumes nothing.
 use mathlib.Core.Path.{◌≡◌, refl, sym, ap, ◌∙◌}
 use mathlib.Core.Bool.{Bool, true, false, not, cond, ◌&&◌, ◌||◌, and-true, and-false, and_assoc, or-true}
-use Prim.Native.Nat.{ℕ, zero, suc, ◌≤◌, ◌<◌}
+use Prim.Native.Nat.{ℕ, zero, suc, ◌+◌, ◌≤◌, ◌<◌}
 use native.Mathlib.Omega.{arith}
 use lib.Dec.{eqb}
+use Rattle.std.specs.List.{list_all, list_any, range_with_len}
 use borrow.Author.Tests.{eqb-true, eqb-false, not-true, not-false}
 use Rattle.model.specs.Bounded.{every, any, least, highest}
 use Rattle.model.proofs.Bools.{and_left, and_right, or_elim, cond-holds}
@@ -42,6 +43,20 @@ every-and (suc n) f g = ap (λ b. b && (f n && g n)) (every-and n f g) ∙ excha
     exchange a true c d = simp (and-true, and_assoc)
     exchange a false c d = simp and-false
 
+-- The same made from the front, and over the list of the numbers.
+every-front : (n : ℕ) (f : ℕ → Bool) → every (suc n) f ≡ (f 0 && every n (λ i. f (suc i)))
+unfolding every
+every-front zero f = sym (and-true (f 0))
+every-front (suc n) f = ap (λ b. b && f (suc n)) (every-front n f) ∙ and_assoc (f 0) (every n (λ i. f (suc i))) (f (suc n))
+
+pub all-range : (a n : ℕ) (f g : ℕ → Bool) → ((i : ℕ) → i < n → f (a + i) ≡ g i) → list_all f (range_with_len a n) ≡ every n g
+unfolding every
+all-range a zero f g h = refl
+all-range a (suc n) f g h =
+    let first : f a ≡ g 0 = ap f (let e : a ≡ a + 0 = omega arith in e) ∙ h 0 (omega arith) in
+    let more : list_all f (range_with_len (a + 1) n) ≡ every n (λ i. g (suc i)) = all-range (a + 1) n f (λ i. g (suc i)) (λ i l. ap f (let e : a + 1 + i ≡ a + suc i = omega arith in e) ∙ h (suc i) (omega arith)) in
+    rw (first, more) (sym (every-front n g))
+
 -- Some number passes where not every one fails: so the laws of `any` are those of `every`.
 any-every : (n : ℕ) (f : ℕ → Bool) → any n f ≡ not (every n (λ i. not (f i)))
 unfolding any every
@@ -59,6 +74,31 @@ any_at n f h i l = not-true (f i) (every-at n (λ j. not (f j)) (not-false _ (sy
 
 pub any_none : (n : ℕ) (f : ℕ → Bool) → ((i : ℕ) → i < n → f i ≡ false) → any n f ≡ false
 any_none n f h = any-every n f ∙ ap not (every-all n (λ i. not (f i)) (λ i l. ap not (h i l)))
+
+-- Some number of a range passes, where 0 is left out.
+any-front : (n : ℕ) (f : ℕ → Bool) → any (suc n) f ≡ (f 0 || any n (λ i. f (suc i)))
+unfolding any
+any-front zero f = go (f 0)
+  where
+    go : (b : Bool) → (false || b) ≡ (b || false)
+    go true = refl
+    go false = refl
+any-front (suc n) f = ap (λ b. b || f (suc n)) (any-front n f) ∙ go (f 0) (any n (λ i. f (suc i))) (f (suc n))
+  where
+    go : (a b c : Bool) → ((a || b) || c) ≡ (a || (b || c))
+    go true b c = refl
+    go false b c = refl
+
+pub any-range : (a n : ℕ) (f g : ℕ → Bool) → ((i : ℕ) → i < n → f (a + i) ≡ g i) → list_any f (range_with_len a n) ≡ any n g
+unfolding any
+any-range a zero f g h = refl
+any-range a (suc n) f g h =
+    let first : f a ≡ g 0 = ap f (let e : a ≡ a + 0 = omega arith in e) ∙ h 0 (omega arith) in
+    let more : list_any f (range_with_len (a + 1) n) ≡ any n (λ i. g (suc i)) = any-range (a + 1) n f (λ i. g (suc i)) (λ i l. ap f (let e : a + 1 + i ≡ a + suc i = omega arith in e) ∙ h (suc i) (omega arith)) in
+    rw (first, more) (sym (any-front n g))
+
+pub any-above : (n : ℕ) (f : ℕ → Bool) → f 0 ≡ false → list_any f (range_with_len 1 n) ≡ any (suc n) f
+any-above n f none = any-range 1 n f (λ i. f (suc i)) (λ i l. ap f (let e : 1 + i ≡ suc i = omega arith in e)) ∙ ap (λ b. b || any n (λ i. f (suc i))) (sym none) ∙ sym (any-front n f)
 
 pub any-cong : (n : ℕ) (f g : ℕ → Bool) → ((i : ℕ) → i < n → f i ≡ g i) → any n f ≡ any n g
 any-cong n f g h = any-every n f ∙ ap not (every-cong n _ _ (λ i l. ap not (h i l))) ∙ sym (any-every n g)
@@ -89,6 +129,18 @@ least-found (suc n) f h = go (f 0) refl (least-found n (λ i. f (suc i))) h
     go : (b : Bool) → f 0 ≡ b → (least n (λ i. f (suc i)) < n → f (suc (least n (λ i. f (suc i)))) ≡ true) → cond b 0 (suc (least n (λ i. f (suc i)))) < suc n → f (cond b 0 (suc (least n (λ i. f (suc i))))) ≡ true
     go true e r l = e
     go false e r l = r (omega arith)
+
+-- A number that passes, with none below it that does, is what `least` finds.
+pub least-is : (n m : ℕ) (f : ℕ → Bool) → m < n → f m ≡ true → ((k : ℕ) → k < m → f k ≡ false) → least n f ≡ m
+unfolding least
+least-is zero m f l e h = absurd (omega arith)
+least-is (suc n) zero f l e h = rw e
+least-is (suc n) (suc m) f l e h = rw (h 0 (omega arith), least-is n m (λ i. f (suc i)) (omega arith) e (λ k q. h (suc k) (omega arith)))
+
+pub least-none : (n : ℕ) (f : ℕ → Bool) → ((k : ℕ) → k < n → f k ≡ false) → least n f ≡ n
+unfolding least
+least-none zero f h = refl
+least-none (suc n) f h = rw (h 0 (omega arith), least-none n (λ i. f (suc i)) (λ k q. h (suc k) (omega arith)))
 
 -- What `highest` finds is below n and passes.
 pub highest-found : (n : ℕ) (f : ℕ → Bool) → eqb (highest n f) 0 ≡ false → (highest n f < n) × (f (highest n f) ≡ true)

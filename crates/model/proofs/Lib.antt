@@ -9,6 +9,7 @@ pub mod AnswerLaws  -- the answer that an event's conditions give, and demand 1
 pub mod FreshFormed  -- the fresh machine is well formed
 pub mod CasesGiven  -- the eight proved cases
 pub mod Maps  -- the map that sees the place
+pub mod Searches  -- what a search for a level answers, as a number and as an option
 pub mod TopVectors  -- the highest ready vector, by words and bits
 pub mod WatchTable  -- the table of watched registers
 pub mod Found  -- what the searches on one processor find

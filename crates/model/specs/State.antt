@@ -1,7 +1,7 @@
 -- The state, and what can be read of it (01, "The bench model"). A reading beyond the processors V, the maximum level M or
 -- the pages P gives the empty record or 0: what lies there is no part of a state. Nor is level 0's control record, its
 -- intercept control word with its masks, its configuration word or its page masks, or DR6 in the place that Dr6Shared leaves unused. Assumes nothing.
-use Rattle.std.specs.Prelude.{Bool, cond, ◌&&◌, List, [], ◌∷◌, ℕ, ◌+◌, ◌*◌, ◌/◌, ◌%◌, leb, ltb, get_or, replicate}
+use Rattle.std.specs.Prelude.{Bool, cond, ◌&&◌, List, [], ◌∷◌, ℕ, ◌+◌, ◌*◌, ◌/◌, ◌%◌, leb, ltb, eqb, get_or, replicate, Option, Some, None}
 use Rattle.word.specs.Field.{bit}
 pub use Rattle.model.specs.declared.machine.Context.{Context}
 pub use Rattle.model.specs.declared.machine.Control.{Control}
@@ -30,9 +30,16 @@ level l = record { 0 = l }
 abbrev pub level_set : ℕ → LevelSet
 level_set n = record { 0 = n }
 
--- What a search for a level gives where there is none.
+-- What a search for a level gives where there is none, and what it found.
 abbrev pub no_level : ℕ
 no_level = 4
+
+unfoldable pub level_found : ℕ → Option Level
+level_found l = cond (ltb l no_level) (Some (level l)) None
+
+-- The same of a search that gives 0 where there is none.
+unfoldable pub above_zero : ℕ → Option ℕ
+above_zero n = cond (eqb n 0) None (Some n)
 
 -- V, M and P.
 unfoldable pub processors : State → ℕ

@@ -1,7 +1,7 @@
 // What an event is answered. specs/Answers.antt gives the number and the value that a listing shows for each case.
 use crate::quantity::Level;
 
-#[derive(Clone, Copy)]
+#[derive(Clone, Copy, PartialEq, Eq)]
 pub enum Answer {
     // The event took place; its value.
     Done(u64),
@@ -12,7 +12,7 @@ pub enum Answer {
 }
 
 // A case for each condition that 01 and the requests of 02 state; specs/Answers.antt has the number of each.
-#[derive(Clone, Copy)]
+#[derive(Clone, Copy, PartialEq, Eq)]
 pub enum Refusal {
     // a line above 256 bytes
     LineTooLong,

@@ -5,15 +5,15 @@ ghost use Rattle.model.specs.Memory.{is_user};
 ghost use Rattle.model.specs.Step.{mode_of};
 
 // A virtual trust level. Level 0 is the least privileged.
-#[derive(Clone, Copy)]
+#[derive(Clone, Copy, PartialEq, Eq, PartialOrd, Ord)]
 pub struct Level(pub u64);
 
 // The index of a virtual processor.
-#[derive(Clone, Copy)]
+#[derive(Clone, Copy, PartialEq, Eq)]
 pub struct Processor(pub u64);
 
 // The number of a page of guest memory.
-#[derive(Clone, Copy)]
+#[derive(Clone, Copy, PartialEq, Eq)]
 pub struct Page(pub u64);
 
 // What 01 takes for a field: levels and TPR classes up to 15, instructions of 1 to 15 bytes, vectors from 16 to 255.
@@ -27,11 +27,11 @@ pub const FIRST_VECTOR: u64 = 16;
 
 pub const LAST_VECTOR: u64 = 255;
 
-// What a search for a level answers where there is none: one more than the highest level.
-pub const NO_LEVEL: u64 = 4;
+// How many levels a machine has at most.
+pub const LEVEL_COUNT: u64 = 4;
 
 // The mode in which a level acts.
-#[derive(Clone, Copy)]
+#[derive(Clone, Copy, PartialEq, Eq)]
 pub enum Mode {
     Kernel,
     User,
@@ -52,14 +52,11 @@ pub fn mode_of(number: u64) -> Mode
 pub fn is_user(mode: Mode) -> bool
     ensures { result ≡ is_user mode }
 {
-    match mode {
-        Mode::Kernel => false,
-        Mode::User => true,
-    }
+    matches!(mode, Mode::User)
 }
 
 // The kinds of access to a page.
-#[derive(Clone, Copy)]
+#[derive(Clone, Copy, PartialEq, Eq)]
 pub enum Access {
     Read,
     Write,

@@ -1,30 +1,17 @@
 -- Loops that count up to a bound: where the loop begins, after one number more, and at its end. Assumes nothing.
 use mathlib.Core.Path.{◌≡◌, refl, ap, ◌∙◌}
-use mathlib.Core.Bool.{Bool, true, cond, ◌&&◌}
+use mathlib.Core.Bool.{cond}
 use mathlib.Core.List.{List}
 use Prim.Native.Nat.{ℕ, ◌+◌, ◌*◌, ◌≤◌}
 use native.Mathlib.Numerals.{add-one}
 use native.Mathlib.Omega.{arith}
 use lib.Dec.{ltb}
 use Rattle.model.specs.Arrays.{stored}
-use Rattle.model.specs.Bounded.{every}
 use Rattle.model.specs.Updates.{filled}
 
 -- At the end of a loop the count is the bound.
 counted : {A : Type 0} (F : ℕ → A) (n i : ℕ) {x : A} → x ≡ F i → i ≤ n → n ≤ i → x ≡ F n
 counted F n i p a b = let e : i ≡ n = omega arith in p ∙ ap F e
-
--- Each number below the count passes.
-pub every-none : (f : ℕ → Bool) → true ≡ every 0 f
-unfolding every
-every-none f = refl
-
-pub every_more : (f : ℕ → Bool) (i : ℕ) {ok t : Bool} → ok ≡ every i f → t ≡ f i → (ok && t) ≡ every (i + 1) f
-unfolding every
-every_more f i p q = rw (add-one, p, q)
-
-pub every-done : (f : ℕ → Bool) (n i : ℕ) {ok : Bool} → ok ≡ every i f → i ≤ n → n ≤ i → ok ≡ every n f
-every-done f = counted (λ n. every n f)
 
 -- The masks of the pages below the count are filled.
 pub filled_none : (P l k : ℕ) (ks : List ℕ) → ks ≡ filled 0 P l k ks

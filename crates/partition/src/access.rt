@@ -3,13 +3,14 @@
 ghost use Rattle.std.specs.Prelude.{◌≡◌, ◌&&◌};
 ghost use Rattle.word.specs.Field.{bit};
 ghost use Rattle.model.specs.Memory.{needed as needed_bit, denies_in, host_denies_by};
+ghost use Rattle.model.specs.State.{level_found};
 ghost use Rattle.partition.specs.Denying.{denying_set, lowest_in};
 ghost use Rattle.partition.specs.PartitionView.{partition_of};
 
 use crate::level::{Levels, protects_at};
 use crate::mask::{KMX_BIT, Masks, READ_BIT, UMX_BIT, WRITE_BIT, mask_at};
 use model::machine::Shape;
-use model::quantity::{Access, Level, Mode, NO_LEVEL, Page, is_user};
+use model::quantity::{Access, LEVEL_COUNT, Level, Mode, Page, is_user};
 use model::set::{LevelSet, in_set, level_set};
 use word::field::has_bit;
 
@@ -68,34 +69,16 @@ pub fn denying_set(
     ensures { result.0
         ≡ denying_set shape pages (partition_of levels.now masks.now) mbecs attempt }
 {
-    let first = denies(
-        shape,
-        pages,
-        levels,
-        masks,
-        attempt,
-        Level(1),
-        has_bit(mbecs.0, 1),
-    );
-    let second = denies(
-        shape,
-        pages,
-        levels,
-        masks,
-        attempt,
-        Level(2),
-        has_bit(mbecs.0, 2),
-    );
-    let third = denies(
-        shape,
-        pages,
-        levels,
-        masks,
-        attempt,
-        Level(3),
-        has_bit(mbecs.0, 3),
-    );
-    level_set(false, first, second, third)
+    let denied_by = |level: Level| {
+        let mbec = in_set(mbecs, level);
+        denies(shape, pages, levels, masks, attempt, level, mbec)
+    };
+    level_set(
+        false,
+        denied_by(Level(1)),
+        denied_by(Level(2)),
+        denied_by(Level(3)),
+    )
 }
 
 // Is a level in both sets?
@@ -105,23 +88,17 @@ fn in_both(set: LevelSet, other: LevelSet, level: Level) -> bool
     in_set(set, level) & in_set(other, level)
 }
 
-// The lowest level that is in both sets; NO_LEVEL if there is none. Of the denying levels that are enabled, it receives the intercept.
-pub fn lowest(set: LevelSet, enabled: LevelSet) -> Level
-    ensures { result.0 ≡ lowest_in set.0 enabled.0 }
+// The lowest level that is in both sets. Of the denying levels that are enabled, it receives the intercept.
+pub fn lowest(set: LevelSet, enabled: LevelSet) -> Option<Level>
+    ensures { result ≡ level_found (lowest_in set.0 enabled.0) }
 {
-    if in_both(set, enabled, Level(0)) {
-        return Level(0);
+    for number in 0..LEVEL_COUNT {
+        let level = Level(number);
+        if in_both(set, enabled, level) {
+            return Some(level);
+        }
     }
-    if in_both(set, enabled, Level(1)) {
-        return Level(1);
-    }
-    if in_both(set, enabled, Level(2)) {
-        return Level(2);
-    }
-    if in_both(set, enabled, Level(3)) {
-        return Level(3);
-    }
-    Level(NO_LEVEL)
+    None
 }
 
 // Does the host deny an access by its mask? The host needs Read, Write or KMX.

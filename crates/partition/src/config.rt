@@ -3,6 +3,7 @@ ghost use Rattle.std.specs.Prelude.{◌≡◌};
 ghost use Rattle.model.specs.Masks.{default_mask, turns_on, reserved_set, secure_reserved_set};
 
 use word::field::take;
+use word::register_word::RegisterWord;
 use word::registers::PartitionConfig;
 
 // The mask that each page gets when the word turns protections on.

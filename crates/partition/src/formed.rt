@@ -10,7 +10,7 @@ use crate::config::{default_mask, reserved_set, turns_on};
 use crate::level::{Levels, config_at, enabled_for, mbec_for};
 use crate::mask::{Masks, kernel_only, mask_at, valid_mask};
 use model::machine::Shape;
-use model::quantity::{Level, Page};
+use model::quantity::{LEVEL_COUNT, Level, Page};
 
 // May a well-formed level have this mask? It is valid, and where `strict` is set, it is not one with KMX and no UMX.
 fn mask_passes(mask: u64, strict: bool) -> bool
@@ -25,13 +25,7 @@ fn mask_passes(mask: u64, strict: bool) -> bool
 fn masks_pass(shape: Shape, pages: u64, masks: &Masks, level: Level, strict: bool) -> bool
     ensures { result ≡ every 64 (λ p. mask_passes strict (mask_in shape pages masks.now level.0 p)) }
 {
-    let mut pass = true;
-    let mut index: u64 = 0;
-    while index < 64 {
-        pass = pass & mask_passes(mask_at(shape, pages, masks, level, Page(index)), strict);
-        index += 1;
-    }
-    pass
+    (0..64).all(|index| mask_passes(mask_at(shape, pages, masks, level, Page(index)), strict))
 }
 
 // Is a level above 0 well formed?
@@ -60,8 +54,5 @@ pub fn well_formed_levels(shape: Shape, pages: u64, levels: &Levels, masks: &Mas
         (in_set shape (enabled_in levels.now) (suc i))
         (in_set shape (mbec_in levels.now) (suc i))) }
 {
-    let first = well_formed_level(shape, pages, levels, masks, Level(1));
-    let second = well_formed_level(shape, pages, levels, masks, Level(2));
-    let third = well_formed_level(shape, pages, levels, masks, Level(3));
-    first & second & third
+    (1..LEVEL_COUNT).all(|number| well_formed_level(shape, pages, levels, masks, Level(number)))
 }

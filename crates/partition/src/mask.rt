@@ -96,9 +96,7 @@ fn set_page_mask(masks: &mut Masks, pages: u64, level: Level, page: Page, mask: 
 pub fn fill_masks(masks: &mut Masks, pages: u64, level: Level, mask: u64)
     ensures { masks.new ≡ filled 64 pages level.0 mask masks.old }
 {
-    let mut index: u64 = 0;
-    while index < 64 {
+    for index in 0..64 {
         set_page_mask(masks, pages, level, Page(index), mask);
-        index += 1;
     }
 }

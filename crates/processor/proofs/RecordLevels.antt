@@ -1,20 +1,13 @@
 -- Sets of levels above 0, level by level: the levels that hold MBEC or a TLB lock for a lower one (01, the events secure, flush
 -- and vstat). Assumes nothing.
 use mathlib.Core.Path.{◌≡◌}
-use mathlib.Core.Bool.{Bool, false, ◌||◌}
 use Prim.Native.Nat.{ℕ}
 use native.Mathlib.Omega.{arith}
 use borrow.Author.Tests.{le-ltb}
 use Rattle.word.specs.Field.{bit}
 use Rattle.model.specs.declared.machine.Shape.{Shape}
 use Rattle.model.specs.declared.machine.VirtualProcessor.{VirtualProcessor}
-use Rattle.model.specs.Bounded.{any}
 use Rattle.model.specs.State.{secure_of}
-
--- Level 0 is not in the set.
-pub upper-any : (f : ℕ → Bool) → f 0 ≡ false → (f 1 || f 2 || f 3) ≡ any 4 f
-unfolding any
-upper-any f h = rw h
 
 -- Level 0 holds nothing for a lower level.
 pub none-held : (z : Shape) (p : VirtualProcessor) (l i : ℕ) → bit (secure_of z p 0 l) i ≡ bit 0 i

@@ -3,7 +3,8 @@
 use mathlib.Core.Path.{◌≡◌, refl, sym, ◌∙◌}
 use mathlib.Core.Bool.{true, ◌&&◌}
 use mathlib.Core.List.{List}
-use Prim.Native.Nat.{ℕ, ◌+◌, ◌≤◌, ◌<◌}
+use Prim.Native.Nat.{ℕ, zero, suc, ◌+◌, ◌≤◌, ◌<◌}
+use native.Mathlib.Numerals.{add-one}
 use native.Mathlib.Omega.{arith}
 use lib.Dec.{eqb}
 use lib.ListN.{get_or, replicate, length, get_or-replicate}
@@ -126,11 +127,20 @@ unfolding stored set_watch
 watch-stored z p q r s l w size e f g =
     rw (g, f, e, altered-again z p l (updated intercepts w.intercepts) (updated cr0_mask_index w.cr0_mask) size, altered-again z p l (λ x. updated cr0_mask_index w.cr0_mask (updated intercepts w.intercepts x)) (updated cr4_mask_index w.cr4_mask) size)
 
--- The four locks of a level, cleared one after the other.
-pub locks-cleared : (z : Shape) (p q r s t : VirtualProcessor) (l : ℕ) → length p.contexts ≡ 4
-    → q ≡ lock_cleared z p l 0 → r ≡ lock_cleared z q l 1 → s ≡ lock_cleared z r l 2 → t ≡ lock_cleared z s l 3 → t ≡ unlocked z p l
-unfolding set_secure unlocked cleared
-locks-cleared z p q r s t l size e f g h = four-altered z p q r s t l (clear 0) (clear 1) (clear 2) (clear 3) size e f g h
-  where
-    clear : ℕ → Context → Context
-    clear i c = with_secure c (stored 4 c.secure i (put lock_bit 1 (number_at 4 c.secure i) 0))
+-- The locks of a level, cleared one after the other: those below n.
+abbrev clear : ℕ → Context → Context
+clear i c = with_secure c (stored 4 c.secure i (put lock_bit 1 (number_at 4 c.secure i) 0))
+
+abbrev pub cleared_below : ℕ → Context → Context
+cleared_below zero c = c
+cleared_below (suc n) c = clear n (cleared_below n c)
+
+module _ (z : Shape) (p : VirtualProcessor) (l : ℕ) where
+  pub cleared-more : (n : ℕ) {q r : VirtualProcessor} → length p.contexts ≡ 4 → q ≡ altered z p l (cleared_below n) → r ≡ lock_cleared z q l n
+      → r ≡ altered z p l (cleared_below (n + 1))
+  unfolding set_secure
+  cleared-more n size e f = rw (f, e, add-one) (altered-again z p l (cleared_below n) (clear n) size)
+
+  pub cleared-all : altered z p l (cleared_below 4) ≡ unlocked z p l
+  unfolding unlocked cleared
+  cleared-all = refl

@@ -112,6 +112,10 @@ vps_of rows = vp_of (get_or rows 0 []) ∷ vp_of (get_or rows 1 []) ∷ vp_of (g
 abbrev pub word_in : Shape → List ℕ → ℕ → ℕ → ℕ
 word_in z ws l k = cond (is_level z l) (get_or ws (levels + level_words * l + k) 0) 0
 
+-- The four words from offset k on.
+abbrev pub four_words : Shape → List ℕ → ℕ → ℕ → List ℕ
+four_words z ws l k = word_in z ws l k ∷ word_in z ws l (k + 1) ∷ word_in z ws l (k + 2) ∷ word_in z ws l (k + 3) ∷ []
+
 -- A context after the word at offset k of its row was set to x.
 abbrev pub updated : ℕ → ℕ → Context → Context
 updated k x c = record {
@@ -152,9 +156,9 @@ abbrev pub control_set : Shape → VirtualProcessor → ℕ → Control → Virt
 control_set z p l k = put_context z p l (with_control (context z p l) k)
 
 -- The row of a level that starts, with the configuration words that it holds of four levels and what it asks to be told of registers.
-abbrev pub started_row : ℕ → ℕ → ℕ → ℕ → ℕ → ℕ → ℕ → Watch → List ℕ
-started_row ip sp cr first second third fourth w =
-    ip ∷ sp ∷ 0 ∷ cr ∷ replicate 14 0 ++ first ∷ second ∷ third ∷ fourth ∷ replicate 4 0 ++ w.intercepts ∷ w.cr0_mask ∷ w.cr4_mask ∷ []
+abbrev pub started_row : ℕ → ℕ → ℕ → List ℕ → Watch → List ℕ
+started_row ip sp cr held w =
+    ip ∷ sp ∷ 0 ∷ cr ∷ replicate 14 0 ++ (held ++ (replicate 4 0 ++ w.intercepts ∷ w.cr0_mask ∷ w.cr4_mask ∷ []))
 
 -- The intercept control word that a level's row holds; and no bit is set in those of levels 1 to 3, whatever the maximum level is.
 abbrev pub intercepts_of : List ℕ → ℕ → ℕ

@@ -52,14 +52,8 @@ fn set_row(vp: &mut Record, level: Level, row: Row)
     ensures row { row_of vp.new level.0 ≡ row }
     ensures rest { Within level.0 vp.old vp.new }
 {
-    let words: &mut [u64] = vp;
-    let number = level.0;
-    let start = (record::LEVELS + record::LEVEL_WORDS * number) as usize;
-    let mut offset: usize = 0;
-    while offset < record::LEVEL_WORDS as usize {
-        words[start + offset] = row[offset];
-        offset += 1;
-    }
+    let start = (record::LEVELS + record::LEVEL_WORDS * level.0) as usize;
+    vp[start..start + record::LEVEL_WORDS as usize].copy_from_slice(&row);
 }
 
 // Adds a level to the set of the enabled levels.
@@ -74,27 +68,17 @@ fn enable(vp: &mut Record, level: Level)
 
 // The row of a level that starts: RIP, RSP and CR0 as given, the configuration of lower levels and what it asks to be told of their
 // registers as they were, and 0 elsewhere.
-fn started_row(
-    initial: InitialContext,
-    zero: u64,
-    one: u64,
-    two: u64,
-    three: u64,
-    watch: Watch,
-) -> Row
-    ensures { result ≡ started_row initial.rip initial.rsp initial.cr0 zero one two three watch }
+fn started_row(initial: InitialContext, held: [u64; 4], watch: Watch) -> Row
+    ensures { result ≡ started_row initial.rip initial.rsp initial.cr0 held watch }
 {
     let mut row = [0; record::LEVEL_WORDS as usize];
     row[register::RIP as usize] = initial.rip;
     row[register::RSP as usize] = initial.rsp;
     row[register::CR0 as usize] = initial.cr0;
-    row[record::SECURE as usize] = zero;
-    row[record::SECURE as usize + 1] = one;
-    row[record::SECURE as usize + 2] = two;
-    row[record::SECURE as usize + 3] = three;
     row[record::INTERCEPTS as usize] = watch.intercepts;
     row[record::CR0_MASK as usize] = watch.cr0_mask;
     row[record::CR4_MASK as usize] = watch.cr4_mask;
+    row[record::SECURE as usize..record::REASON as usize].copy_from_slice(&held);
     row
 }
 
@@ -105,14 +89,8 @@ pub fn start(shape: Shape, vp: &mut Record, target: Level, initial: InitialConte
         ≡ started shape (vp_of vp.old) target.0 initial.rip initial.rsp initial.cr0 }
 {
     if is_level(shape, target) {
-        let row = started_row(
-            initial,
-            record::level_word(shape, vp, target, record::SECURE),
-            record::level_word(shape, vp, target, record::SECURE + 1),
-            record::level_word(shape, vp, target, record::SECURE + 2),
-            record::level_word(shape, vp, target, record::SECURE + 3),
-            watch_of(shape, vp, target),
-        );
+        let held = record::four_words(shape, vp, target, record::SECURE);
+        let row = started_row(initial, held, watch_of(shape, vp, target));
         set_row(vp, target, row);
         enable(vp, target);
     }

@@ -1,8 +1,8 @@
 // Interrupt vectors of a level (01, "Events": tpr, ack, int): which are pending, which are ready, and the highest that is both.
 // A vector is ready where its class, vector / 16, is above the level's TPR class. RFLAGS.IF plays no part in any of it.
-ghost use Rattle.std.specs.Prelude.{[], ◌∷◌, ◌≡◌};
+ghost use Rattle.std.specs.Prelude.{◌≡◌};
 ghost use Rattle.model.specs.Entry.{is_ready, highest_ready, top_bit, top_vector, enters};
-ghost use Rattle.model.specs.State.{context};
+ghost use Rattle.model.specs.State.{above_zero, context};
 ghost use Rattle.model.specs.Updates.{set_pending, set_tpr};
 ghost use Rattle.processor.specs.Record.{vp_of};
 
@@ -39,35 +39,28 @@ fn top_bit(word: u64) -> u64
 }
 
 // The vector of the top set bit of the top non-zero word (02, request 4), of the four pending words of a level; 0 if all are 0.
-fn top_vector(zero: u64, one: u64, two: u64, three: u64) -> u64
-    ensures { result ≡ top_vector (zero ∷ one ∷ two ∷ three ∷ []) }
+fn top_vector(words: [u64; 4]) -> u64
+    ensures { result ≡ top_vector words }
 {
-    if three != 0 {
-        return 3 * WORD_VECTORS + top_bit(three);
+    for number in (0..PENDING_WORDS).rev() {
+        let word = words[number as usize];
+        if word != 0 {
+            return WORD_VECTORS * number + top_bit(word);
+        }
     }
-    if two != 0 {
-        return 2 * WORD_VECTORS + top_bit(two);
-    }
-    if one != 0 {
-        return WORD_VECTORS + top_bit(one);
-    }
-    top_bit(zero)
+    0
 }
 
-// The highest vector of a level that is pending and ready; 0 if none is. That of the top bit decides: no pending vector is higher.
-pub fn highest_ready(shape: Shape, vp: &Record, level: Level) -> u64
-    ensures { result ≡ highest_ready (context shape (vp_of vp.now) level.0) }
+// The highest vector of a level that is pending and ready. That of the top bit decides: no pending vector is higher.
+pub fn highest_ready(shape: Shape, vp: &Record, level: Level) -> Option<u64>
+    ensures { result ≡ above_zero (highest_ready (context shape (vp_of vp.now) level.0)) }
 {
     let tpr = record::level_word(shape, vp, level, record::TPR);
-    let zero = record::level_word(shape, vp, level, record::PENDING);
-    let one = record::level_word(shape, vp, level, record::PENDING + 1);
-    let two = record::level_word(shape, vp, level, record::PENDING + 2);
-    let three = record::level_word(shape, vp, level, record::PENDING + 3);
-    let vector = top_vector(zero, one, two, three);
+    let vector = top_vector(record::four_words(shape, vp, level, record::PENDING));
     if tpr < vector / CLASS_VECTORS {
-        vector
+        Some(vector)
     } else {
-        0
+        None
     }
 }
 

@@ -1,11 +1,11 @@
 // The record of a virtual processor in words, and what stands where (01, "The bench model"; specs/Record.antt says what the words
 // mean). First the active level, the set of the enabled levels and the shared registers; then a row of words for each level.
-ghost use Rattle.std.specs.Prelude.{◌≡◌, ◌+◌, ◌*◌, ◌%◌, ◌<◌, length};
+ghost use Rattle.std.specs.Prelude.{◌≡◌, ◌+◌, ◌*◌, ◌%◌, ◌≤◌, ◌<◌, length};
 ghost use Rattle.word.specs.Field.{put};
 ghost use Rattle.model.specs.Bounded.{bits};
 ghost use Rattle.model.specs.State.{active_of, enabled_at};
 ghost use Rattle.model.specs.Updates.{with_active};
-ghost use Rattle.processor.specs.Record.{record_words, levels, level_words, vp_of, word_in, word_put};
+ghost use Rattle.processor.specs.Record.{record_words, levels, level_words, vp_of, word_in, four_words, word_put};
 
 use model::machine::Shape;
 use model::quantity::Level;
@@ -83,6 +83,20 @@ pub(crate) fn level_word(shape: Shape, vp: &Record, level: Level, offset: u64) -
         return words[i];
     }
     0
+}
+
+// The four words from an offset on in a level's row; 0 beyond M.
+pub(crate) fn four_words(shape: Shape, vp: &Record, level: Level, offset: u64) -> [u64; 4]
+    requires { offset + 4 ≤ level_words }
+    ensures words { result ≡ four_words shape vp.now level.0 offset }
+    ensures size { length vp.now ≡ record_words }
+{
+    [
+        level_word(shape, vp, level, offset),
+        level_word(shape, vp, level, offset + 1),
+        level_word(shape, vp, level, offset + 2),
+        level_word(shape, vp, level, offset + 3),
+    ]
 }
 
 // Sets the word at an offset in a level's row; beyond M nothing changes.

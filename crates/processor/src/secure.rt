@@ -10,8 +10,9 @@ ghost use Rattle.processor.specs.Record.{vp_of, lock_cleared};
 use crate::record;
 use crate::record::Record;
 use model::machine::Shape;
-use model::quantity::{Level, NO_LEVEL};
+use model::quantity::{LEVEL_COUNT, Level};
 use model::set::{LevelSet, level_set};
+use word::register_word::RegisterWord;
 use word::registers::SecureConfig;
 
 // The TLB lock in a configuration word. Only this bit is cleared: a word that is packed anew would lose its reserved bits.
@@ -24,7 +25,7 @@ pub fn secure_of(shape: Shape, vp: &Record, holder: Level, lower: Level) -> u64
     if lower.0 >= holder.0 {
         return 0;
     }
-    if lower.0 >= NO_LEVEL {
+    if lower.0 >= LEVEL_COUNT {
         return 0;
     }
     record::level_word(shape, vp, holder, record::SECURE + lower.0)
@@ -60,17 +61,14 @@ pub fn mbec_set(shape: Shape, vp: &Record, level: Level) -> LevelSet
 pub fn holds_lock(shape: Shape, vp: &Record, level: Level) -> bool
     ensures { result ≡ any 4 (λ t. bit (secure_of shape (vp_of vp.now) t level.0) lock_bit) }
 {
-    let one = has_lock(shape, vp, Level(1), level);
-    let two = has_lock(shape, vp, Level(2), level);
-    let three = has_lock(shape, vp, Level(3), level);
-    one | two | three
+    (1..LEVEL_COUNT).any(|number| has_lock(shape, vp, Level(number), level))
 }
 
 // secure: sets the holder's configuration of the lower level.
 pub fn set_secure(shape: Shape, vp: &mut Record, holder: Level, lower: Level, value: u64)
     ensures { vp_of vp.new ≡ set_secure shape (vp_of vp.old) holder.0 lower.0 value }
 {
-    if lower.0 >= NO_LEVEL {
+    if lower.0 >= LEVEL_COUNT {
         return;
     }
     record::set_level_word(shape, vp, holder, record::SECURE + lower.0, value);
@@ -88,8 +86,7 @@ fn clear_lock(shape: Shape, vp: &mut Record, holder: Level, lower: Level)
 pub fn unlock(shape: Shape, vp: &mut Record, level: Level)
     ensures { vp_of vp.new ≡ unlocked shape (vp_of vp.old) level.0 }
 {
-    clear_lock(shape, vp, level, Level(0));
-    clear_lock(shape, vp, level, Level(1));
-    clear_lock(shape, vp, level, Level(2));
-    clear_lock(shape, vp, level, Level(3));
+    for number in 0..LEVEL_COUNT {
+        clear_lock(shape, vp, level, Level(number));
+    }
 }

@@ -18,7 +18,7 @@ ghost use Rattle.promise.specs.Promise.{outcome_of, Runs};
 use model::answer::{Answer, Refusal};
 use model::machine::{BY_INTERRUPT, Shape};
 use model::quantity;
-use model::quantity::{Level, Mode, NO_LEVEL};
+use model::quantity::{Level, Mode};
 use model::register::{CR0, LAST_REGISTER, PROTECTED_BIT};
 use partition::config::secure_reserved_set;
 use partition::level::{Levels, mbec_for};
@@ -26,9 +26,9 @@ use processor::interrupt::set_tpr;
 use processor::record::{Record, active_of, enabled_at};
 use processor::record_registers::{register_of, set_register};
 use processor::secure::set_secure;
-use processor::watch::none_watches;
 use watch::asking::{read_watcher, write_watcher};
 use word::field::has_bit;
+use word::register_word::RegisterWord;
 use word::registers::SecureConfig;
 
 // secure: the actor's word for a lower level is set.
@@ -105,11 +105,7 @@ pub fn rreg(shape: Shape, vp: &mut Record, mode: Mode, target: Level, register: 
     if !enabled_at(shape, vp, target) {
         return Answer::Refused(Refusal::NotEnabledOnProcessor);
     }
-    let mut receiver = Level(NO_LEVEL);
-    if !none_watches(vp) {
-        receiver = read_watcher(shape, vp, target, register);
-    }
-    if receiver.0 < NO_LEVEL {
+    if let Some(receiver) = read_watcher(shape, vp, target, register) {
         return intercept(shape, vp, receiver);
     }
     Answer::Done(register_of(shape, vp, target, register))
@@ -150,11 +146,7 @@ pub fn wreg(
     if !enabled_at(shape, vp, target) {
         return Answer::Refused(Refusal::NotEnabledOnProcessor);
     }
-    let mut receiver = Level(NO_LEVEL);
-    if !none_watches(vp) {
-        receiver = write_watcher(shape, vp, target, register, value);
-    }
-    if receiver.0 < NO_LEVEL {
+    if let Some(receiver) = write_watcher(shape, vp, target, register, value) {
         return intercept(shape, vp, receiver);
     }
     set_register(shape, vp, target, register, value);

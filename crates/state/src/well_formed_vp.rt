@@ -24,6 +24,7 @@ use processor::record_registers::private_of;
 use processor::secure::secure_of;
 use processor::watch::{intercept_reserved_set, watch_of};
 use word::field::{has_bit, take};
+use word::register_word::RegisterWord;
 use word::registers::SecureConfig;
 
 // The word at an offset in a level's row; 0 beyond M.

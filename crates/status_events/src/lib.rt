@@ -19,6 +19,7 @@ use partition::level::{Levels, enabled_levels, mbec_levels};
 use processor::record::{Record, active_of, enabled_set};
 use processor::secure::mbec_set;
 use word::field::one_if;
+use word::register_word::RegisterWord;
 use word::registers::{Capabilities, PartitionStatus, VpStatus};
 
 // flush: refused where on any processor any level above the actor holds a lock on the actor's level, as `locked` tells.

@@ -1,8 +1,8 @@
 // Which level is told of an access to a register (02, request 6): the lowest one above the actor that is enabled on the processor and asks.
-// A level with no bit set in its word asks for nothing, so the table is searched only for one that has a bit set. A caller for whom that
-// is seldom asks `none_watches` of crate `processor` first.
+// A level with no bit set in its word asks for nothing, so the table is searched only for one that has a bit set. Most machines watch
+// nothing, so `none_watches` of crate `processor` is asked first.
 ghost use Rattle.std.specs.Prelude.{◌&&◌, ◌≡◌, ltb};
-ghost use Rattle.model.specs.State.{context, enabled_at};
+ghost use Rattle.model.specs.State.{context, enabled_at, level_found};
 ghost use Rattle.model.specs.Registers.{register_of};
 ghost use Rattle.model.specs.Watching.{asks_read, asks_write, changes_masked, mask_for, watcher};
 ghost use Rattle.processor.specs.Record.{vp_of};
@@ -10,11 +10,11 @@ ghost use Rattle.watch.specs.Asking.{asks_for};
 
 use crate::table::asked;
 use model::machine::{Shape, Watch};
-use model::quantity::{Level, NO_LEVEL};
+use model::quantity::{LEVEL_COUNT, Level};
 use model::register;
 use processor::record::{Record, active_of, enabled_at};
 use processor::record_registers::register_of;
-use processor::watch::watch_of;
+use processor::watch::{none_watches, watch_of};
 
 // An access to a register: a read, or a write of a new value in the place of the old.
 #[derive(Clone, Copy)]
@@ -86,38 +86,47 @@ fn hears(shape: Shape, vp: &Record, actor: Level, level: Level, access: Register
     asks(watch_of(shape, vp, level), access)
 }
 
-// The lowest level that is told of an access to a register of the target, which only an actor's own are; NO_LEVEL if there is none.
-fn watcher(shape: Shape, vp: &Record, target: Level, access: RegisterAccess) -> Level
-    ensures { result.0 ≡ watcher shape (vp_of vp.now) target.0 (asks_for access) }
+// The lowest level that is told of an access to a register of the target, which only an actor's own are.
+fn watcher(shape: Shape, vp: &Record, target: Level, access: RegisterAccess) -> Option<Level>
+    ensures { result ≡ level_found (watcher shape (vp_of vp.now) target.0 (asks_for access)) }
 {
     if target.0 != active_of(vp).0 {
-        return Level(NO_LEVEL);
+        return None;
     }
-    if hears(shape, vp, target, Level(1), access) {
-        return Level(1);
+    for number in 1..LEVEL_COUNT {
+        let level = Level(number);
+        if hears(shape, vp, target, level, access) {
+            return Some(level);
+        }
     }
-    if hears(shape, vp, target, Level(2), access) {
-        return Level(2);
-    }
-    if hears(shape, vp, target, Level(3), access) {
-        return Level(3);
-    }
-    Level(NO_LEVEL)
+    None
 }
 
 // The level that is told of a read of a register.
-pub fn read_watcher(shape: Shape, vp: &Record, target: Level, register: u64) -> Level
-    ensures { result.0 ≡ watcher shape (vp_of vp.now) target.0 (asks_read register) }
+pub fn read_watcher(shape: Shape, vp: &Record, target: Level, register: u64) -> Option<Level>
+    ensures { result ≡ level_found (watcher shape (vp_of vp.now) target.0 (asks_read register)) }
 {
+    if none_watches(vp) {
+        return None;
+    }
     watcher(shape, vp, target, RegisterAccess::Read { register })
 }
 
 // The level that is told of a write of a value to a register.
-pub fn write_watcher(shape: Shape, vp: &Record, target: Level, register: u64, value: u64) -> Level
+pub fn write_watcher(
+    shape: Shape,
+    vp: &Record,
+    target: Level,
+    register: u64,
+    value: u64,
+) -> Option<Level>
     ensures { let p = vp_of vp.now in
-        result.0
-        ≡ watcher shape p target.0 (asks_write register (register_of shape p target.0 register) value) }
+        let asks = asks_write register (register_of shape p target.0 register) value in
+        result ≡ level_found (watcher shape p target.0 asks) }
 {
+    if none_watches(vp) {
+        return None;
+    }
     let old = register_of(shape, vp, target, register);
     let access = RegisterAccess::Write {
         register,

@@ -32,8 +32,7 @@ fn with_intercepts(watch: Watch, word: u64) -> Watch
 {
     Watch {
         intercepts: word,
-        cr0_mask: watch.cr0_mask,
-        cr4_mask: watch.cr4_mask,
+        ..watch
     }
 }
 
@@ -42,16 +41,15 @@ fn with_mask(watch: Watch, four: bool, mask: u64) -> Watch
     ensures { result ≡ with_cr_mask watch four mask }
 {
     if four {
-        return Watch {
-            intercepts: watch.intercepts,
-            cr0_mask: watch.cr0_mask,
+        Watch {
             cr4_mask: mask,
-        };
-    }
-    Watch {
-        intercepts: watch.intercepts,
-        cr0_mask: mask,
-        cr4_mask: watch.cr4_mask,
+            ..watch
+        }
+    } else {
+        Watch {
+            cr0_mask: mask,
+            ..watch
+        }
     }
 }
 

@@ -141,14 +141,7 @@ const WATCH_TABLE: [WatchedAccess; INTERCEPTS] = [
 pub(crate) fn asked(word: u64, register: u64, write: bool) -> bool
     ensures { result ≡ asked_in watch_table word register write }
 {
-    let mut i: usize = 0;
-    while i < INTERCEPTS {
-        let row = WATCH_TABLE[i];
-        let set = has_bit(word, row.position.0);
-        if set & (row.register == register) & (row.write == write) {
-            return true;
-        }
-        i += 1;
-    }
-    false
+    WATCH_TABLE.iter().any(|row| {
+        has_bit(word, row.position.0) & (row.register == register) & (row.write == write)
+    })
 }

@@ -1,10 +1,10 @@
 // The intercept control word of document 001, HV_REGISTER_CR_INTERCEPT_CONTROL: the accesses to registers of lower levels that a level
 // intercepts. Its 25 fields have one bit each, so its structure is an array of their values, in the order of 001; each field has
 // its name as a position. The other 39 bits are reserved.
-ghost use Rattle.std.specs.Prelude.{◌≡◌};
-ghost use Rattle.word.specs.RegisterLayouts.{intercept_control, pack_as, unpack_as};
+ghost use Rattle.word.specs.RegisterLayouts.{intercept_control};
 
 use crate::field::{FieldPosition, put, take};
+use crate::register_word::RegisterWord;
 
 // How many fields there are.
 pub const INTERCEPTS: usize = 25;
@@ -64,28 +64,23 @@ impl InterceptControl {
     pub const MSR_TSC_AUX_WRITE: FieldPosition = FieldPosition(23, 1);
 
     pub const MSR_SGX_LAUNCH_CONTROL_WRITE: FieldPosition = FieldPosition(24, 1);
+}
 
-    pub fn pack(self) -> u64
-        ensures { result ≡ pack_as intercept_control self }
-    {
-        let values = self.values;
+impl RegisterWord for InterceptControl {
+    ghost layout = { intercept_control };
+
+    fn pack(self) -> u64 {
         let mut word: u64 = 0;
-        let mut i: usize = 0;
-        while i < INTERCEPTS {
-            word = put(word, i as u32, 1, values[i]);
-            i += 1;
+        for (i, value) in self.values.iter().enumerate() {
+            word = put(word, i as u32, 1, *value);
         }
         word
     }
 
-    pub fn unpack(word: u64) -> Self
-        ensures { result ≡ unpack_as intercept_control word }
-    {
+    fn unpack(word: u64) -> Self {
         let mut values = [0; INTERCEPTS];
-        let mut i: usize = 0;
-        while i < INTERCEPTS {
-            values[i] = take(word, i as u32, 1);
-            i += 1;
+        for (i, value) in values.iter_mut().enumerate() {
+            *value = take(word, i as u32, 1);
         }
         Self { values }
     }

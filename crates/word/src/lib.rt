@@ -4,4 +4,5 @@
 
 pub mod field; // a field of any width at any offset, taken and put, and a single bit
 pub mod intercept_control; // the intercept control word, packed and unpacked
+pub mod register_word; // what each register has: pack and unpack, as its layout says
 pub mod registers; // the other registers of document 001, packed and unpacked, and the fields of all by number

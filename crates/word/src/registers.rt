@@ -1,15 +1,14 @@
 // Six registers of document 001 (the seventh stands in intercept_control.rt): the structure of each, packed into a word and unpacked
-// from one; and below them one table of the used fields of all seven, by which a field is read and replaced by its number. Of a value that is packed only the low bits count, as many
-// as its field has. Reserved bits are packed as 0 and passed over. Each offset and width stands here once, as a constant that `pack`,
-// `unpack` and the table take.
+// from one; and below them one table of the used fields of all seven, by which a field is read and replaced by its number. Each offset
+// and width stands here once, as a constant that `pack`, `unpack` and the table take.
 ghost use Rattle.std.specs.Prelude.{◌≡◌};
 ghost use Rattle.word.specs.RegisterFields.{field_of, position_of, with_field};
-ghost use Rattle.word.specs.RegisterLayouts.{pack_as, unpack_as};
 ghost use Rattle.word.specs.RegisterLayouts.{capabilities, partition_status, vp_status};
 ghost use Rattle.word.specs.RegisterLayouts.{partition_config, secure_config, code_page_offsets};
 
 use crate::field::FieldPosition;
 use crate::intercept_control::InterceptControl;
+use crate::register_word::RegisterWord;
 
 // What the hypervisor offers: HV_X64_REGISTER_VSM_CAPABILITIES.
 #[derive(Clone, Copy)]
@@ -25,18 +24,18 @@ impl Capabilities {
     pub const MBEC_VTL_MASK: FieldPosition = FieldPosition(47, 16);
 
     pub const DR6_SHARED: FieldPosition = FieldPosition(63, 1);
+}
 
-    pub fn pack(self) -> u64
-        ensures { result ≡ pack_as capabilities self }
-    {
+impl RegisterWord for Capabilities {
+    ghost layout = { capabilities };
+
+    fn pack(self) -> u64 {
         let word = Self::DENY_LOWER_VTL_STARTUP.put(0, self.deny_lower_vtl_startup);
         let word = Self::MBEC_VTL_MASK.put(word, self.mbec_vtl_mask);
         Self::DR6_SHARED.put(word, self.dr6_shared)
     }
 
-    pub fn unpack(word: u64) -> Self
-        ensures { result ≡ unpack_as capabilities word }
-    {
+    fn unpack(word: u64) -> Self {
         Self {
             deny_lower_vtl_startup: Self::DENY_LOWER_VTL_STARTUP.take(word),
             mbec_vtl_mask: Self::MBEC_VTL_MASK.take(word),
@@ -59,18 +58,18 @@ impl PartitionStatus {
     pub const MAXIMUM_VTL: FieldPosition = FieldPosition(16, 4);
 
     pub const MBEC_ENABLED_VTL_SET: FieldPosition = FieldPosition(20, 16);
+}
 
-    pub fn pack(self) -> u64
-        ensures { result ≡ pack_as partition_status self }
-    {
+impl RegisterWord for PartitionStatus {
+    ghost layout = { partition_status };
+
+    fn pack(self) -> u64 {
         let word = Self::ENABLED_VTL_SET.put(0, self.enabled_vtl_set);
         let word = Self::MAXIMUM_VTL.put(word, self.maximum_vtl);
         Self::MBEC_ENABLED_VTL_SET.put(word, self.mbec_enabled_vtl_set)
     }
 
-    pub fn unpack(word: u64) -> Self
-        ensures { result ≡ unpack_as partition_status word }
-    {
+    fn unpack(word: u64) -> Self {
         Self {
             enabled_vtl_set: Self::ENABLED_VTL_SET.take(word),
             maximum_vtl: Self::MAXIMUM_VTL.take(word),
@@ -93,18 +92,18 @@ impl VpStatus {
     pub const ACTIVE_MBEC_ENABLED: FieldPosition = FieldPosition(4, 1);
 
     pub const ENABLED_VTL_SET: FieldPosition = FieldPosition(16, 16);
+}
 
-    pub fn pack(self) -> u64
-        ensures { result ≡ pack_as vp_status self }
-    {
+impl RegisterWord for VpStatus {
+    ghost layout = { vp_status };
+
+    fn pack(self) -> u64 {
         let word = Self::ACTIVE_VTL.put(0, self.active_vtl);
         let word = Self::ACTIVE_MBEC_ENABLED.put(word, self.active_mbec_enabled);
         Self::ENABLED_VTL_SET.put(word, self.enabled_vtl_set)
     }
 
-    pub fn unpack(word: u64) -> Self
-        ensures { result ≡ unpack_as vp_status word }
-    {
+    fn unpack(word: u64) -> Self {
         Self {
             active_vtl: Self::ACTIVE_VTL.take(word),
             active_mbec_enabled: Self::ACTIVE_MBEC_ENABLED.take(word),
@@ -133,10 +132,12 @@ impl PartitionConfig {
     pub const DENY_LOWER_VTL_STARTUP: FieldPosition = FieldPosition(6, 1);
 
     pub const INTERCEPT_VP_STARTUP: FieldPosition = FieldPosition(9, 1);
+}
 
-    pub fn pack(self) -> u64
-        ensures { result ≡ pack_as partition_config self }
-    {
+impl RegisterWord for PartitionConfig {
+    ghost layout = { partition_config };
+
+    fn pack(self) -> u64 {
         let word = Self::ENABLE_VTL_PROTECTION.put(0, self.enable_vtl_protection);
         let word = Self::DEFAULT_VTL_PROTECTION_MASK.put(word, self.default_vtl_protection_mask);
         let word = Self::ZERO_MEMORY_ON_RESET.put(word, self.zero_memory_on_reset);
@@ -144,9 +145,7 @@ impl PartitionConfig {
         Self::INTERCEPT_VP_STARTUP.put(word, self.intercept_vp_startup)
     }
 
-    pub fn unpack(word: u64) -> Self
-        ensures { result ≡ unpack_as partition_config word }
-    {
+    fn unpack(word: u64) -> Self {
         Self {
             enable_vtl_protection: Self::ENABLE_VTL_PROTECTION.take(word),
             default_vtl_protection_mask: Self::DEFAULT_VTL_PROTECTION_MASK.take(word),
@@ -168,17 +167,17 @@ impl SecureConfig {
     pub const MBEC_ENABLED: FieldPosition = FieldPosition(0, 1);
 
     pub const TLB_LOCKED: FieldPosition = FieldPosition(1, 1);
+}
 
-    pub fn pack(self) -> u64
-        ensures { result ≡ pack_as secure_config self }
-    {
+impl RegisterWord for SecureConfig {
+    ghost layout = { secure_config };
+
+    fn pack(self) -> u64 {
         let word = Self::MBEC_ENABLED.put(0, self.mbec_enabled);
         Self::TLB_LOCKED.put(word, self.tlb_locked)
     }
 
-    pub fn unpack(word: u64) -> Self
-        ensures { result ≡ unpack_as secure_config word }
-    {
+    fn unpack(word: u64) -> Self {
         Self {
             mbec_enabled: Self::MBEC_ENABLED.take(word),
             tlb_locked: Self::TLB_LOCKED.take(word),
@@ -197,17 +196,17 @@ impl CodePageOffsets {
     pub const VTL_CALL_OFFSET: FieldPosition = FieldPosition(0, 12);
 
     pub const VTL_RETURN_OFFSET: FieldPosition = FieldPosition(12, 12);
+}
 
-    pub fn pack(self) -> u64
-        ensures { result ≡ pack_as code_page_offsets self }
-    {
+impl RegisterWord for CodePageOffsets {
+    ghost layout = { code_page_offsets };
+
+    fn pack(self) -> u64 {
         let word = Self::VTL_CALL_OFFSET.put(0, self.vtl_call_offset);
         Self::VTL_RETURN_OFFSET.put(word, self.vtl_return_offset)
     }
 
-    pub fn unpack(word: u64) -> Self
-        ensures { result ≡ unpack_as code_page_offsets word }
-    {
+    fn unpack(word: u64) -> Self {
         Self {
             vtl_call_offset: Self::VTL_CALL_OFFSET.take(word),
             vtl_return_offset: Self::VTL_RETURN_OFFSET.take(word),

@@ -1,12 +1,15 @@
 -- `entry::reenter` meets its contract: the level that waits is entered. Assumes nothing.
+use Rattle.std.proofs.Common.{sym, ◌∙◌}
 use Rattle.model.specs.Entry.{reentered}
-use Rattle.std.proofs.Common.{eq-eqb, ne_eqb}
+use Rattle.entry.proofs.LevelSearches.{waited, none-waited}
 use Rattle.entry.proofs.reenter.Goals as goal
 
-pub returns-then-level-ne0 : goal.returns-then-level-ne0
+pub returns-in-Some : goal.returns-in-Some
 unfolding reentered
-returns-then-level-ne0 c = rw (c.enter.ensures, ← c.waiting-level.ensures, ne_eqb _ _ c.if-level-ne0.true)
+returns-in-Some c =
+    let w = waited _ (sym c.waiting.ensures ∙ c.in-Some.is) in
+    rw (c.enter.ensures, ← w.1, w.0)
 
-pub returns-else-level-ne0 : goal.returns-else-level-ne0
+pub returns-in_default : goal.returns-in_default
 unfolding reentered
-returns-else-level-ne0 c = rw (← c.waiting-level.ensures, eq-eqb _ _ c.if-level-ne0.false)
+returns-in_default c = rw (none-waited _ (sym c.waiting.ensures ∙ c.in_default.is))

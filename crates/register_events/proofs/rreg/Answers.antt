@@ -1,18 +1,13 @@
 -- `rreg` meets its contract: the tests of its rule in their order, and then its effect. Assumes nothing.
-use mathlib.Core.Path.{◌≡◌, refl, sym, ap, ◌∙◌}
+use mathlib.Core.Path.{refl, sym, ◌∙◌}
 use mathlib.Core.Option.{some}
 use borrow.Author.Tests.{lt-ltb, le-ltb}
+use Rattle.model.proofs.Searches.{number-found, number-past}
 use Rattle.model.specs.Answers.{first_of}
-use Rattle.model.specs.Watching.{asks_read, watcher}
-use Rattle.processor.proofs.RecordStores.{words-zero}
-use Rattle.processor.specs.Record.{vp_of}
 use Rattle.promise.proofs.Outcomes.{record-stays, record-read, record-entered, the-maximum, the-actor, the-enabled-on}
 use Rattle.model.specs.Step.{acted, rule_of}
 use Rattle.model.specs.declared.event.Action.TheVariants.{Rreg}
-use Rattle.watch.proofs.Watchers.{none_told}
-use Rattle.watch.specs.declared.asking.RegisterAccess.TheVariants.{Read}
 use Rattle.register_events.proofs.rreg.Goals as goal
-use Rattle.register_events.proofs.rreg.Goals.{then-not-none_watches, else-not-none_watches}
 
 pub returns-then-target-gt-HIGHEST_LEVEL : goal.returns-then-target-gt-HIGHEST_LEVEL
 unfolding acted rule_of first_of
@@ -50,29 +45,18 @@ returns-then-not-enabled_at c s v h =
     let a = c.args in
     record-stays s (some v) (rule_of s v a.mode (Rreg a.target a.register)) h (rw (the-maximum s h.shaped, the-actor h, the-enabled-on h, h.shaped, h.holds, le-ltb _ _ c.if-target-gt-HIGHEST_LEVEL.false, le-ltb _ _ c.if-register-gt-LAST_REGISTER.false, ← c.is_user.ensures, c.if-is_user.false, le-ltb _ _ c.if-shape-target.false, ← c.active_of-actor.ensures, le-ltb _ _ c.if-actor-target.false, ← c.enabled_at.ensures, c.if-not-enabled_at.true))
 
-pub returns-then-receiver-lt-NO_LEVEL : goal.returns-then-receiver-lt-NO_LEVEL
+pub returns-in-Some : goal.returns-in-Some
 unfolding acted rule_of first_of
-returns-then-receiver-lt-NO_LEVEL c s v h =
-    let told : let a = c.args in let p = vp_of a.vp.now in c.if-not-none_watches.receiver.0 ≡ watcher a.shape p a.target.0 (asks_read a.register) = let a = c.args in
-    let p = vp_of a.vp.now in
-    elim c.if-not-none_watches.branch [
-      | then-not-none_watches w ↦ ap (λ l. l.0) w.receiver-is ∙ w.read_watcher-receiver.ensures
-      | else-not-none_watches w ↦ ap (λ l. l.0) w.receiver-is ∙ sym (none_told a.shape p a.target.0 (Read a.register) (words-zero _ (sym c.none_watches.ensures ∙ w.if-not-none_watches.false) a.shape))
-    ] in
+returns-in-Some c s v h =
+    let found = number-found _ (sym c.read_watcher.ensures ∙ c.in-Some.is) in
     let a = c.args in
-    record-entered s (rule_of s v a.mode (Rreg a.target a.register)) h {l = c.if-not-none_watches.receiver}
-    (rw (the-maximum s h.shaped, the-actor h, the-enabled-on h, h.shaped, h.holds, le-ltb _ _ c.if-target-gt-HIGHEST_LEVEL.false, le-ltb _ _ c.if-register-gt-LAST_REGISTER.false, ← c.is_user.ensures, c.if-is_user.false, le-ltb _ _ c.if-shape-target.false, ← c.active_of-actor.ensures, le-ltb _ _ c.if-actor-target.false, ← c.enabled_at.ensures, c.if-not-enabled_at.false, ← told, lt-ltb _ _ c.if-receiver-lt-NO_LEVEL.true))
+    record-entered s (rule_of s v a.mode (Rreg a.target a.register)) h {l = c.in-Some.receiver}
+    (rw (the-maximum s h.shaped, the-actor h, the-enabled-on h, h.shaped, h.holds, le-ltb _ _ c.if-target-gt-HIGHEST_LEVEL.false, le-ltb _ _ c.if-register-gt-LAST_REGISTER.false, ← c.is_user.ensures, c.if-is_user.false, le-ltb _ _ c.if-shape-target.false, ← c.active_of-actor.ensures, le-ltb _ _ c.if-actor-target.false, ← c.enabled_at.ensures, c.if-not-enabled_at.false, found.0, found.1))
     c.intercept.ensures.entered ∙ rw c.intercept.ensures.answer
 
 pub returns : goal.returns
 unfolding acted rule_of first_of
 returns c s v h =
-    let told : let a = c.args in let p = vp_of a.vp.now in c.if-not-none_watches.receiver.0 ≡ watcher a.shape p a.target.0 (asks_read a.register) = let a = c.args in
-    let p = vp_of a.vp.now in
-    elim c.if-not-none_watches.branch [
-      | then-not-none_watches w ↦ ap (λ l. l.0) w.receiver-is ∙ w.read_watcher-receiver.ensures
-      | else-not-none_watches w ↦ ap (λ l. l.0) w.receiver-is ∙ sym (none_told a.shape p a.target.0 (Read a.register) (words-zero _ (sym c.none_watches.ensures ∙ w.if-not-none_watches.false) a.shape))
-    ] in
     let a = c.args in
     record-read s (some v) (rule_of s v a.mode (Rreg a.target a.register)) h refl {x = c.register_of.result}
-    (rw (the-maximum s h.shaped, the-actor h, the-enabled-on h, h.shaped, h.holds, le-ltb _ _ c.if-target-gt-HIGHEST_LEVEL.false, le-ltb _ _ c.if-register-gt-LAST_REGISTER.false, ← c.is_user.ensures, c.if-is_user.false, le-ltb _ _ c.if-shape-target.false, ← c.active_of-actor.ensures, le-ltb _ _ c.if-actor-target.false, ← c.enabled_at.ensures, c.if-not-enabled_at.false, ← told, le-ltb _ _ c.if-receiver-lt-NO_LEVEL.false, ← c.register_of.ensures))
+    (rw (the-maximum s h.shaped, the-actor h, the-enabled-on h, h.shaped, h.holds, le-ltb _ _ c.if-target-gt-HIGHEST_LEVEL.false, le-ltb _ _ c.if-register-gt-LAST_REGISTER.false, ← c.is_user.ensures, c.if-is_user.false, le-ltb _ _ c.if-shape-target.false, ← c.active_of-actor.ensures, le-ltb _ _ c.if-actor-target.false, ← c.enabled_at.ensures, c.if-not-enabled_at.false, number-past _ (sym c.read_watcher.ensures ∙ c.in_default.is), ← c.register_of.ensures))

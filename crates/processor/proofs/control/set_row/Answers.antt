@@ -1,13 +1,10 @@
--- `control::set_row` meets its contract. The loop's invariant is `Filled`, and the measure is the number of words left. Assumes nothing.
-use Rattle.processor.proofs.RecordRows.{filled-start, filled_more, filled-done}
-use borrow.Author.Rules.{rules}
+-- `control::set_row` meets its contract: the row is replaced as a whole. Assumes nothing.
+use Rattle.std.proofs.Common.{rules, arith}
+use Rattle.processor.proofs.RecordRows.{row-put, row-within}
 use Rattle.processor.proofs.control.set_row.Goals as goal
 
-pub loop-offset-init : goal.loop-offset-init
-loop-offset-init c = filled-start _ _ _ (search rules)
+pub returns-clause-row : goal.returns-clause-row
+returns-clause-row c = rw c.copy_from_slice.ensures.after (row-put _ _ _ _ c.requires (search rules) (omega arith) (search rules))
 
-pub loop-offset-preserved : goal.loop-offset-preserved
-loop-offset-preserved c = filled_more c.requires (search rules) c.loop-offset.invariant c.loop-offset-test.true
-
-pub returns : goal.returns
-returns c = record { row = filled-done c.requires (search rules) c.loop-offset.invariant c.loop-offset-test.false; rest = c.loop-offset.invariant.within }
+pub returns-clause-rest : goal.returns-clause-rest
+returns-clause-rest c = rw c.copy_from_slice.ensures.after (row-within _ _ _ _ c.requires (search rules) (omega arith) (search rules))

@@ -10,10 +10,10 @@ pub returns-then-lower-holder : goal.returns-then-lower-holder
 unfolding secure_of
 returns-then-lower-holder c = rw (le-ltb _ _ c.if-lower-holder.true)
 
-pub returns-then-lower-ge-NO_LEVEL : goal.returns-then-lower-ge-NO_LEVEL
+pub returns-then-lower-ge-LEVEL_COUNT : goal.returns-then-lower-ge-LEVEL_COUNT
 unfolding secure_of number_at
-returns-then-lower-ge-NO_LEVEL c = rw (lt-ltb _ _ c.if-lower-holder.false, le-ltb _ _ c.if-lower-ge-NO_LEVEL.true)
+returns-then-lower-ge-LEVEL_COUNT c = rw (lt-ltb _ _ c.if-lower-holder.false, le-ltb _ _ c.if-lower-ge-LEVEL_COUNT.true)
 
 pub returns : goal.returns
 unfolding secure_of
-returns c = rw (lt-ltb _ _ c.if-lower-holder.false) (c.level_word.ensures.word ∙ held-read _ _ _ _ c.if-lower-ge-NO_LEVEL.false)
+returns c = rw (lt-ltb _ _ c.if-lower-holder.false) (c.level_word.ensures.word ∙ held-read _ _ _ _ c.if-lower-ge-LEVEL_COUNT.false)
