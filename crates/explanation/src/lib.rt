@@ -151,14 +151,12 @@ pub fn explain(
 // The same for a processor of a machine. One that there is not has the empty record: level 0 is active, and no level has MBEC on.
 pub fn explain_in(
     setup: Setup,
-    levels: &Levels,
-    masks: &Masks,
-    vps: &[Record; 4],
+    parts: &Parts,
     vp: Processor,
     request: Request,
 ) -> Explanation
     ensures { (words : List ℕ)
-        → explanation_of (lent setup levels.now masks.now vps.now words)
+        → explanation_of (state_of setup parts.now words)
         vp.0 request.mode request.page.0 request.access ≡ result }
 {
     if (vp.0 < setup.processors) & (vp.0 < 4) {

@@ -106,8 +106,8 @@ fn answer_event(machine: &mut [u64], event: Event) -> Reply
     let mut vps = machine_words::records_in(machine);
     let end = machine_words::words_end(machine);
     let words = &mut machine[WORDS..end];
-    let answer = step::step(setup, &mut levels, &mut masks, &mut vps, words, event);
-    machine_words::store_parts(machine, &levels, &masks, &vps);
+    let answer = step::step(setup, &mut parts, words, event);
+    machine_words::store_parts(machine, &parts);
     let vp = listing::processor_of(event);
     // The place for vp, which counts only where there is such a processor.
     let place = (vp.0 % 4) as usize;

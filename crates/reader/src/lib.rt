@@ -84,13 +84,11 @@ fn receive(input: &[u8], from: usize, setup: Setup) -> Option<Received>
         input,
         from,
         setup,
-        &mut levels,
-        &mut masks,
-        &mut vps,
+        &mut parts,
         &mut words,
     )?;
     let pages = lent_words(&words, setup.pages);
-    if !well_formed(setup, &levels, &masks, &vps, &words[..pages]) {
+    if !well_formed(setup, &parts, &words[..pages]) {
         return None;
     }
     Some(Received {

@@ -27,9 +27,7 @@ pub(crate) fn read_places(
     input: &[u8],
     from: usize,
     setup: Setup,
-    levels: &mut Levels,
-    masks: &mut Masks,
-    vps: &mut [Record; 4],
+    parts: &mut Parts,
     words: &mut [u64; 64],
 ) -> Option<usize>
     requires from_in_bounds { from ≤ length input.now }
@@ -49,7 +47,7 @@ pub(crate) fn read_places(
         }
         let end = line_end(input, at);
         let value = line_value(place, &input[at..end])?;
-        store(levels, masks, vps, words, place, value);
+        store(parts, words, place, value);
         at = after_line(input, end);
         due = walk::next(setup, place);
     }

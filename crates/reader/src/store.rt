@@ -109,9 +109,7 @@ fn in_row(level: Level, offset: u64) -> u64
 
 // Stores the quantity at a place.
 pub(crate) fn store(
-    levels: &mut Levels,
-    masks: &mut Masks,
-    vps: &mut [Record; 4],
+    parts: &mut Parts,
     words: &mut [u64; 64],
     place: Place,
     x: u64,

@@ -50,13 +50,11 @@ pub enum Reason {
 // Why the access that a line asks for, if it asks for one, is allowed or denied on a machine whose parts are lent. The words of the pages do not matter.
 pub fn cause_of(
     setup: Setup,
-    levels: &Levels,
-    masks: &Masks,
-    vps: &[Record; 4],
+    parts: &Parts,
     asked: Option<Asked>,
 ) -> Option<Explanation>
     ensures { (words : List ℕ)
-        → cause_of (lent setup levels.now masks.now vps.now words) asked ≡ result }
+        → cause_of (state_of setup parts.now words) asked ≡ result }
 {
     let asked = asked?;
     let request = Request {
@@ -64,7 +62,7 @@ pub fn cause_of(
         page: asked.page,
         access: asked.access,
     };
-    Some(explain_in(setup, levels, masks, vps, asked.vp, request))
+    Some(explain_in(setup, parts, asked.vp, request))
 }
 
 // A denied access has its explanation as the reason, any other event the reason that is given.

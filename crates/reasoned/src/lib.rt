@@ -83,14 +83,12 @@ fn end_later(start: Session, out: &mut [u8; LONGEST_REASONED]) -> Written
     let parsed = script::parse(&start.line[..size]);
     let told = tell(
         start.setup,
-        &mut levels,
-        &mut masks,
-        &mut vps,
+        &mut parts,
         &mut words[..lent],
         parsed,
     );
     let wrote = write_line(out, number, told.shown, told.why);
-    let session = session::after_line(start, next, levels, masks, vps, words);
+    let session = session::after_line(start, next, parts, words);
     Written { session, wrote }
 }
 

@@ -30,19 +30,17 @@ pub struct Told {
 fn tell_event(
     cause: Option<Explanation>,
     setup: Setup,
-    levels: &mut Levels,
-    masks: &mut Masks,
-    vps: &mut [Record; 4],
+    parts: &mut Parts,
     words: &mut [u64],
     event: Event,
 ) -> Told
     ensures { ToldBy cause (Ok event) result
-        (lent setup levels.old masks.old vps.old words.old)
-        (lent setup levels.new masks.new vps.new words.new) }
+        (state_of setup parts.old words.old)
+        (state_of setup parts.new words.new) }
 {
-    let formed = well_formed(setup, levels, masks, vps, words);
+    let formed = well_formed(setup, parts, words);
     let vp = listing::processor_of(event);
-    let answer = step::step_if(formed, setup, levels, masks, vps, words, event);
+    let answer = step::step_if(formed, setup, parts, words, event);
     // The place for vp, which counts only where there is such a processor.
     let place = (vp.0 % 4) as usize;
     let active = listing::level_on(vp, setup.processors, active_of(&vps[place]));
@@ -55,22 +53,20 @@ fn tell_event(
 // What a line is answered, with the reason, from what it says.
 pub(crate) fn tell(
     setup: Setup,
-    levels: &mut Levels,
-    masks: &mut Masks,
-    vps: &mut [Record; 4],
+    parts: &mut Parts,
     words: &mut [u64],
     parsed: Result<Event, Refusal>,
 ) -> Told
     ensures { ToldBy
-        (cause_of (lent setup levels.old masks.old vps.old words.old)
+        (cause_of (state_of setup parts.old words.old)
         (asked_by parsed)) parsed result
-        (lent setup levels.old masks.old vps.old words.old)
-        (lent setup levels.new masks.new vps.new words.new) }
+        (state_of setup parts.old words.old)
+        (state_of setup parts.new words.new) }
 {
     let asked = asked_by(parsed);
-    let cause = cause_of(setup, levels, masks, vps, asked);
+    let cause = cause_of(setup, parts, asked);
     match parsed {
-        Ok(event) => tell_event(cause, setup, levels, masks, vps, words, event),
+        Ok(event) => tell_event(cause, setup, parts, words, event),
         Err(refusal) => {
             let answer = Answer::Refused(refusal);
             Told {

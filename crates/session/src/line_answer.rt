@@ -18,19 +18,17 @@ use processor::record::{Record, active_of};
 fn answer_event(
     formed: bool,
     setup: Setup,
-    levels: &mut Levels,
-    masks: &mut Masks,
-    vps: &mut [Record; 4],
+    parts: &mut Parts,
     words: &mut [u64],
     event: Event,
 ) -> Shown
-    requires { formed ≡ well_formed (lent setup levels.old masks.old vps.old words.old) }
+    requires { formed ≡ well_formed (state_of setup parts.old words.old) }
     ensures { AnsweredBy formed (Ok event) result
-        (lent setup levels.old masks.old vps.old words.old)
-        (lent setup levels.new masks.new vps.new words.new) }
+        (state_of setup parts.old words.old)
+        (state_of setup parts.new words.new) }
 {
     let vp = listing::processor_of(event);
-    let answer = step::step_if(formed, setup, levels, masks, vps, words, event);
+    let answer = step::step_if(formed, setup, parts, words, event);
     // The place for vp, which counts only where there is such a processor.
     let place = (vp.0 % 4) as usize;
     let active = listing::level_on(vp, setup.processors, active_of(&vps[place]));
@@ -41,20 +39,18 @@ fn answer_event(
 pub(crate) fn answer_line(
     formed: bool,
     setup: Setup,
-    levels: &mut Levels,
-    masks: &mut Masks,
-    vps: &mut [Record; 4],
+    parts: &mut Parts,
     words: &mut [u64],
     line: &[u8],
 ) -> Shown
-    requires { formed ≡ well_formed (lent setup levels.old masks.old vps.old words.old) }
+    requires { formed ≡ well_formed (state_of setup parts.old words.old) }
     ensures { AnsweredBy formed (line_event line.now) result
-        (lent setup levels.old masks.old vps.old words.old)
-        (lent setup levels.new masks.new vps.new words.new) }
+        (state_of setup parts.old words.old)
+        (state_of setup parts.new words.new) }
 {
     let parsed = script::parse(line);
     match parsed {
-        Ok(event) => answer_event(formed, setup, levels, masks, vps, words, event),
+        Ok(event) => answer_event(formed, setup, parts, words, event),
         Err(refusal) => listing::show(Answer::Refused(refusal), Level(0)),
     }
 }

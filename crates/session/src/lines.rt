@@ -166,19 +166,17 @@ fn end_later(start: Session, out: &mut [u8]) -> Written
     let mut vps = start.vps;
     let mut words = start.words;
     let lent = lent_words(&words, start.lent);
-    let formed = well_formed(setup, &levels, &masks, &vps, &words[..lent]);
+    let formed = well_formed(setup, &parts, &words[..lent]);
     let size = chunk::held_length(&start.line, start.length);
     let shown = answer_line(
         formed,
         setup,
-        &mut levels,
-        &mut masks,
-        &mut vps,
+        &mut parts,
         &mut words[..lent],
         &start.line[..size],
     );
     let wrote = listing_record::write_record(out, 0, listing_record::line_number(number), shown);
-    let session = after_line(start, next, levels, masks, vps, words);
+    let session = after_line(start, next, parts, words);
     Written { session, wrote }
 }
 
@@ -221,13 +219,13 @@ pub(crate) fn feed_later(
     let mut words = start.words;
     let mut line = listing_record::line_number(start.number);
     let lent = lent_words(&words, start.lent);
-    let formed = well_formed(setup, &levels, &masks, &vps, &words[..lent]);
+    let formed = well_formed(setup, &parts, &words[..lent]);
     let mut i = from;
     let mut wrote = at;
     loop {
         let end = chunk::line_end(chunk, i);
         if chunk.len() <= end {
-            let session = after_line(start, line.number, levels, masks, vps, words);
+            let session = after_line(start, line.number, parts, words);
             return Fed {
                 session: keep(session, &chunk[i..]),
                 used: end,
@@ -236,7 +234,7 @@ pub(crate) fn feed_later(
         }
         if out.len() - wrote < LONGEST_RECORD {
             return Fed {
-                session: after_line(start, line.number, levels, masks, vps, words),
+                session: after_line(start, line.number, parts, words),
                 used: i,
                 wrote,
             };
@@ -246,9 +244,7 @@ pub(crate) fn feed_later(
         let shown = answer_line(
             formed,
             setup,
-            &mut levels,
-            &mut masks,
-            &mut vps,
+            &mut parts,
             &mut words[..lent],
             bytes,
         );

@@ -7,6 +7,7 @@ use Rattle.model.specs.declared.machine.Setup.{Setup}
 use Rattle.model.specs.State.{State}
 use Rattle.partition.specs.PartitionView.{partition_of}
 use Rattle.processor.specs.Record.{vp_of}
+use Rattle.state.specs.declared.parts.Parts.{Parts}
 
 -- The machine of its parts.
 unfoldable pub machine_of : Setup → List ℕ → List ℕ → List (List ℕ) → Machine
@@ -22,6 +23,10 @@ machine_of setup levels masks vps = record {
 -- The state that the parts make up. Different parts make different states (`Lent-one` of proofs/OneState.antt).
 abbrev pub lent : Setup → List ℕ → List ℕ → List (List ℕ) → List ℕ → State
 lent setup levels masks vps words = record { machine = machine_of setup levels masks vps; words = words }
+
+-- The state of a machine whose levels, masks and processors are held as one.
+abbrev pub state_of : Setup → Parts → List ℕ → State
+state_of setup parts words = lent setup parts.levels parts.masks parts.vps words
 
 -- What a first line says that stays the same in a run.
 abbrev pub setup_of : FirstLine → Setup

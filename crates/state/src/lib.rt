@@ -3,5 +3,6 @@
 #![tactic(auto)]
 
 pub mod fresh; // the machine of a first line
+pub mod parts; // what a machine holds of levels, masks and processors
 pub mod well_formed_state; // well-formed states
 mod well_formed_vp; // well-formed processors

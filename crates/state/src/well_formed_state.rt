@@ -5,8 +5,9 @@ ghost use Rattle.model.specs.State.{in_range};
 ghost use Rattle.model.specs.WellFormed.{◌implies◌, well_formed, well_formed_vp, well_moded_vp};
 ghost use Rattle.partition.specs.PartitionView.{partition_of};
 ghost use Rattle.processor.specs.Record.{vp_of};
-ghost use Rattle.state.specs.Lent.{lent};
+ghost use Rattle.state.specs.Lent.{state_of};
 
+use crate::parts::Parts;
 use crate::well_formed_vp::{well_formed_vp, well_moded_vp};
 use model::machine::{Setup, Shape};
 use model::quantity::Level;
@@ -44,25 +45,18 @@ fn well_formed_place(known: bool, shape: Shape, levels: &Levels, vp: &Record) ->
 }
 
 // Is the state of these parts well formed?
-pub fn well_formed(
-    setup: Setup,
-    levels: &Levels,
-    masks: &Masks,
-    vps: &[Record; 4],
-    words: &[u64],
-) -> bool
-    ensures { result ≡ well_formed (lent setup levels.now masks.now vps.now
-        words.now) }
+pub fn well_formed(setup: Setup, parts: &Parts, words: &[u64]) -> bool
+    ensures { result ≡ well_formed (state_of setup parts.now words.now) }
 {
     let shape = setup.shape;
     let count = words.len() as u64;
     let sized = in_range(setup.processors, shape.max_level, setup.pages);
-    let zero = well_formed_place(0 < setup.processors, shape, levels, &vps[0]);
-    let one = well_formed_place(1 < setup.processors, shape, levels, &vps[1]);
-    let two = well_formed_place(2 < setup.processors, shape, levels, &vps[2]);
-    let three = well_formed_place(3 < setup.processors, shape, levels, &vps[3]);
-    let protections = well_formed_levels(shape, setup.pages, levels, masks);
+    let zero = well_formed_place(0 < setup.processors, shape, &parts.levels, &parts.vps[0]);
+    let one = well_formed_place(1 < setup.processors, shape, &parts.levels, &parts.vps[1]);
+    let two = well_formed_place(2 < setup.processors, shape, &parts.levels, &parts.vps[2]);
+    let three = well_formed_place(3 < setup.processors, shape, &parts.levels, &parts.vps[3]);
+    let protections = well_formed_levels(shape, setup.pages, &parts.levels, &parts.masks);
     let host = valid_mask(setup.host_mask);
-    let lowest = mbec_for(shape, levels, Level(0));
+    let lowest = mbec_for(shape, &parts.levels, Level(0));
     sized & (count == setup.pages) & (zero & one & two & three) & protections & host & !lowest
 }

@@ -10,7 +10,7 @@ ghost use Rattle.model.specs.State.{enabled_at, enabled_anywhere, is_index, no_v
 ghost use Rattle.model.specs.Step.{acted as acted_of, ruled as ruled_of, step as step_of};
 ghost use Rattle.processor.specs.Record.{vp_of};
 ghost use Rattle.promise.specs.Promise.{outcome_of};
-ghost use Rattle.state.specs.Lent.{lent};
+ghost use Rattle.state.specs.Lent.{lent, state_of};
 ghost use Rattle.step.specs.Stepped.{step_if};
 
 use access_events::Request;
@@ -20,12 +20,11 @@ use model::answer::{Answer, Refusal};
 use model::event::{Action, Event};
 use model::machine::{Setup, Shape};
 use model::quantity::{Access, Level, Mode, Processor, mode_of};
-use partition::level::Levels;
-use partition::mask::Masks;
 use processor::control::InitialContext;
 use processor::record::{Record, active_of, enabled_at};
 use processor::secure::holds_lock;
 use register_events::{rreg, secure, tpr, wreg};
+use state::parts::Parts;
 use state::well_formed_state::well_formed;
 use watch::{cri, crm};
 
@@ -96,18 +95,17 @@ fn enabled_anywhere(setup: Setup, vps: &[Record; 4], level: Level) -> bool
 // The rule of what a level does on a processor that is there.
 fn acted(
     setup: Setup,
-    levels: &mut Levels,
-    masks: &mut Masks,
-    vps: &mut [Record; 4],
+    parts: &mut Parts,
     words: &mut [u64],
     operation: Operation,
 ) -> Answer
     requires { (setup.processors ≤ 4) × (is_index setup.processors operation.vp.0 ≡ true) }
     ensures { outcome_of result
-        (lent setup levels.new masks.new vps.new words.new)
-        ≡ acted_of (lent setup levels.old masks.old vps.old words.old)
+        (state_of setup parts.new words.new)
+        ≡ acted_of (state_of setup parts.old words.old)
         operation.vp.0 operation.mode operation.action }
 {
+    let Parts { levels, masks, vps } = parts;
     let shape = setup.shape;
     let mode = operation.mode;
     let action = operation.action;
@@ -177,7 +175,10 @@ fn acted(
         Action::Tpr { class } => tpr(shape, &mut vps[i], mode, class),
         Action::Ack => entry_events::ack(shape, &mut vps[i], mode),
         Action::Pstat => status_events::pstat(shape, levels, mode),
-        Action::Vstat => status_events::vstat(shape, &vps[i], mode),
+        Action::Vstat => {
+            let vp = &mut vps[i];
+            status_events::vstat(shape, vp, mode)
+        }
         Action::Caps => status_events::caps(shape, mode),
         Action::Cri { word } => cri(shape, &mut vps[i], mode, word),
         Action::Crm {
@@ -190,17 +191,15 @@ fn acted(
 // The rule of an event. Its processor and its mode are looked at here, once for all events.
 fn ruled(
     setup: Setup,
-    levels: &mut Levels,
-    masks: &mut Masks,
-    vps: &mut [Record; 4],
+    parts: &mut Parts,
     words: &mut [u64],
     event: Event,
 ) -> Answer
     requires { setup.processors ≤ 4 }
     ensures { outcome_of result
-        (lent setup levels.new masks.new vps.new words.new)
+        (state_of setup parts.new words.new)
         ≡ ruled_of
-        (lent setup levels.old masks.old vps.old words.old) event }
+        (state_of setup parts.old words.old) event }
 {
     match event {
         Event::Made { vp, mode, action } => {
@@ -213,9 +212,7 @@ fn ruled(
             let mode = mode_of(mode);
             acted(
                 setup,
-                levels,
-                masks,
-                vps,
+                parts,
                 words,
                 Operation { vp, mode, action },
             )
@@ -224,9 +221,9 @@ fn ruled(
             if !is_processor(setup.processors, on) {
                 return Answer::Refused(Refusal::NoSuchTarget);
             }
-            record_count(vps);
+            record_count(&parts.vps);
             let j = on.0 as usize;
-            entry_events::int(setup.shape, &mut vps[j], target, vector)
+            entry_events::int(setup.shape, &mut parts.vps[j], target, vector)
         }
     }
 }
@@ -236,20 +233,18 @@ fn ruled(
 pub fn step_if(
     formed: bool,
     setup: Setup,
-    levels: &mut Levels,
-    masks: &mut Masks,
-    vps: &mut [Record; 4],
+    parts: &mut Parts,
     words: &mut [u64],
     event: Event,
 ) -> Answer
     ensures { outcome_of result
-        (lent setup levels.new masks.new vps.new words.new)
+        (state_of setup parts.new words.new)
         ≡ step_if formed
-        (lent setup levels.old masks.old vps.old words.old) event }
+        (state_of setup parts.old words.old) event }
 {
     if formed {
         if setup.processors <= 4 {
-            return ruled(setup, levels, masks, vps, words, event);
+            return ruled(setup, parts, words, event);
         }
     }
     Answer::Refused(Refusal::NotWellFormed)
@@ -258,17 +253,15 @@ pub fn step_if(
 // One event on a machine with the words of its pages. A state that is not well formed gets answer 1, and nothing changes.
 pub fn step(
     setup: Setup,
-    levels: &mut Levels,
-    masks: &mut Masks,
-    vps: &mut [Record; 4],
+    parts: &mut Parts,
     words: &mut [u64],
     event: Event,
 ) -> Answer
     ensures { outcome_of result
-        (lent setup levels.new masks.new vps.new words.new)
+        (state_of setup parts.new words.new)
         ≡ step_of
-        (lent setup levels.old masks.old vps.old words.old) event }
+        (state_of setup parts.old words.old) event }
 {
-    let formed = well_formed(setup, levels, masks, vps, words);
-    step_if(formed, setup, levels, masks, vps, words, event)
+    let formed = well_formed(setup, parts, words);
+    step_if(formed, setup, parts, words, event)
 }

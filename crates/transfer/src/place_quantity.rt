@@ -71,15 +71,12 @@ fn page_word(words: &[u64], page: Page) -> u64
 // The quantity at a place that the machine has.
 pub(crate) fn quantity(
     setup: Setup,
-    levels: &Levels,
-    masks: &Masks,
-    vps: &[Record; 4],
+    parts: &Parts,
     words: &[u64],
     place: Place,
 ) -> u64
     requires { (has setup place ≡ true) × (length words.now ≡ setup.pages) }
-    ensures { result ≡ value_at (lent setup levels.now masks.now vps.now
-        words.now) place }
+    ensures { result ≡ value_at (state_of setup parts.now words.now) place }
 {
     let shape = setup.shape;
     match place {

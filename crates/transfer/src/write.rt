@@ -24,18 +24,14 @@ fn write_places(
     out: &mut [u8],
     start: usize,
     setup: Setup,
-    levels: &Levels,
-    masks: &Masks,
-    vps: &[Record; 4],
+    parts: &Parts,
     words: &[u64],
 ) -> usize
-    requires words_value { well_formed (lent setup levels.now masks.now vps.now words.now) ≡ true }
-    requires words_in_bounds { start + length (places_text (lent setup levels.now masks.now vps.now words.now))
+    requires words_value { well_formed (state_of setup parts.now words.now) ≡ true }
+    requires words_in_bounds { start + length (places_text (state_of setup parts.now words.now))
         ≤ length out.old }
-    ensures value { result ≡ start + length (places_text (lent setup levels.now masks.now
-        vps.now words.now)) }
-    ensures out_after { out.new ≡ sets out.old start (places_text (lent setup
-        levels.now masks.now vps.now words.now)) }
+    ensures value { result ≡ start + length (places_text (state_of setup parts.now words.now)) }
+    ensures out_after { out.new ≡ sets out.old start (places_text (state_of setup parts.now words.now)) }
 {
     let mut at = start;
     let mut due = walk::first(setup);
@@ -43,7 +39,7 @@ fn write_places(
         let Some(place) = due else {
             return at;
         };
-        let value = quantity(setup, levels, masks, vps, words, place);
+        let value = quantity(setup, parts, words, place);
         at = write_record(out, at, place, value);
         due = walk::next(setup, place);
     }
@@ -53,20 +49,16 @@ fn write_places(
 fn write_all(
     out: &mut [u8],
     setup: Setup,
-    levels: &Levels,
-    masks: &Masks,
-    vps: &[Record; 4],
+    parts: &Parts,
     words: &[u64],
 ) -> usize
-    requires words_value { well_formed (lent setup levels.now masks.now vps.now words.now) ≡ true }
+    requires words_value { well_formed (state_of setup parts.now words.now) ≡ true }
     requires longest_text_in_bounds { longest_text ≤ length out.old }
-    ensures value { result ≡ length (records_text (lent setup levels.now masks.now
-        vps.now words.now)) }
-    ensures out_after { out.new ≡ sets out.old 0 (records_text (lent setup
-        levels.now masks.now vps.now words.now)) }
+    ensures value { result ≡ length (records_text (state_of setup parts.now words.now)) }
+    ensures out_after { out.new ≡ sets out.old 0 (records_text (state_of setup parts.now words.now)) }
 {
     let end = write_first(out, setup);
-    write_places(out, end, setup, levels, masks, vps, words)
+    write_places(out, end, setup, parts, words)
 }
 
 // A buffer that has room for the records of every well-formed machine.
@@ -80,19 +72,15 @@ fn blank() -> [u8; LONGEST_TEXT]
 fn write_within(
     out: &mut [u8],
     setup: Setup,
-    levels: &Levels,
-    masks: &Masks,
-    vps: &[Record; 4],
+    parts: &Parts,
     words: &[u64],
 ) -> usize
-    requires { well_formed (lent setup levels.now masks.now vps.now words.now) ≡ true }
-    ensures value { result ≡ after_text out.old 0 (sent_text (lent setup levels.now
-        masks.now vps.now words.now)) }
-    ensures out_after { out.new ≡ with_text out.old 0 (sent_text (lent setup
-        levels.now masks.now vps.now words.now)) }
+    requires { well_formed (state_of setup parts.now words.now) ≡ true }
+    ensures value { result ≡ after_text out.old 0 (sent_text (state_of setup parts.now words.now)) }
+    ensures out_after { out.new ≡ with_text out.old 0 (sent_text (state_of setup parts.now words.now)) }
 {
     let mut text = blank();
-    let size = write_all(&mut text, setup, levels, masks, vps, words);
+    let size = write_all(&mut text, setup, parts, words);
     if out.len() < size {
         return 0;
     }
@@ -104,21 +92,17 @@ fn write_within(
 pub fn write_records(
     out: &mut [u8],
     setup: Setup,
-    levels: &Levels,
-    masks: &Masks,
-    vps: &[Record; 4],
+    parts: &Parts,
     words: &[u64],
 ) -> usize
-    ensures value { result ≡ after_text out.old 0 (sent_text (lent setup levels.now
-        masks.now vps.now words.now)) }
-    ensures out_after { out.new ≡ with_text out.old 0 (sent_text (lent setup
-        levels.now masks.now vps.now words.now)) }
+    ensures value { result ≡ after_text out.old 0 (sent_text (state_of setup parts.now words.now)) }
+    ensures out_after { out.new ≡ with_text out.old 0 (sent_text (state_of setup parts.now words.now)) }
 {
-    if !well_formed(setup, levels, masks, vps, words) {
+    if !well_formed(setup, parts, words) {
         return 0;
     }
     if LONGEST_TEXT <= out.len() {
-        return write_all(out, setup, levels, masks, vps, words);
+        return write_all(out, setup, parts, words);
     }
-    write_within(out, setup, levels, masks, vps, words)
+    write_within(out, setup, parts, words)
 }

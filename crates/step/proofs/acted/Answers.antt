@@ -1,4 +1,5 @@
 -- `acted` meets its contract: each function says what the rule gives of the parts that it is given. Assumes nothing.
+use Rattle.std.proofs.lemmas.List.{set-get_or}
 use mathlib.Core.Path.{◌≡◌, refl, sym, ap, ◌∙◌}
 use mathlib.Core.Bool.{Bool, true}
 use mathlib.Core.List.{List, []}
@@ -106,12 +107,12 @@ returns-then-not-is_processor c =
 
 pub returns-in-Enpart : goal.returns-in-Enpart
 returns-in-Enpart c =
-    let x : Parts = record { setup = c.args.setup; vp = c.args.operation.vp; mode = c.args.operation.mode; action = c.args.operation.action; levels = c.args.levels.now; masks = c.args.masks.now; words = c.args.words.now; rows = c.args.vps.now } in
+    let x : Parts = record { setup = c.args.setup; vp = c.args.operation.vp; mode = c.args.operation.mode; action = c.args.operation.action; levels = c.args.parts.now.levels; masks = c.args.parts.now.masks; words = c.args.words.now; rows = c.args.parts.now.vps } in
     on-partition x c.requires.1 c.record_count.ensures c.active_of-actor.ensures _ c.in-Enpart.is _ _ (c.enpart.ensures _ _ _ _ (its-acts x c.requires.1 c.record_count.ensures c.active_of-actor.ensures _ c.in-Enpart.is))
 
 pub returns-else-not-is_processor : goal.returns-else-not-is_processor
 returns-else-not-is_processor c =
-    let x : Parts = record { setup = c.args.setup; vp = c.args.operation.vp; mode = c.args.operation.mode; action = c.args.operation.action; levels = c.args.levels.now; masks = c.args.masks.now; words = c.args.words.now; rows = c.args.vps.now } in
+    let x : Parts = record { setup = c.args.setup; vp = c.args.operation.vp; mode = c.args.operation.mode; action = c.args.operation.action; levels = c.args.parts.now.levels; masks = c.args.parts.now.masks; words = c.args.words.now; rows = c.args.parts.now.vps } in
     let on-there : is_index c.args.setup.processors c.in-Envp.on.0 ≡ true = sym c.is_processor.ensures ∙ c.if-not-is_processor.false in
     let told = c.in-Envp.is in
     let to = on-there in
@@ -119,92 +120,93 @@ returns-else-not-is_processor c =
 
 pub returns-in-Call : goal.returns-in-Call
 returns-in-Call c =
-    let x : Parts = record { setup = c.args.setup; vp = c.args.operation.vp; mode = c.args.operation.mode; action = c.args.operation.action; levels = c.args.levels.now; masks = c.args.masks.now; words = c.args.words.now; rows = c.args.vps.now } in
+    let x : Parts = record { setup = c.args.setup; vp = c.args.operation.vp; mode = c.args.operation.mode; action = c.args.operation.action; levels = c.args.parts.now.levels; masks = c.args.parts.now.masks; words = c.args.words.now; rows = c.args.parts.now.vps } in
     on-record x c.requires.1 c.record_count.ensures c.active_of-actor.ensures _ c.in-Call.is _ (c.call.ensures _ _ (its-runs x c.requires.1 c.record_count.ensures c.active_of-actor.ensures _ c.in-Call.is))
 
 pub returns-in-Ret : goal.returns-in-Ret
 returns-in-Ret c =
-    let x : Parts = record { setup = c.args.setup; vp = c.args.operation.vp; mode = c.args.operation.mode; action = c.args.operation.action; levels = c.args.levels.now; masks = c.args.masks.now; words = c.args.words.now; rows = c.args.vps.now } in
+    let x : Parts = record { setup = c.args.setup; vp = c.args.operation.vp; mode = c.args.operation.mode; action = c.args.operation.action; levels = c.args.parts.now.levels; masks = c.args.parts.now.masks; words = c.args.words.now; rows = c.args.parts.now.vps } in
     on-record x c.requires.1 c.record_count.ensures c.active_of-actor.ensures _ c.in-Ret.is _ (c.ret.ensures _ _ (its-runs x c.requires.1 c.record_count.ensures c.active_of-actor.ensures _ c.in-Ret.is))
 
 pub returns-in-Read : goal.returns-in-Read
 returns-in-Read c =
-    let x : Parts = record { setup = c.args.setup; vp = c.args.operation.vp; mode = c.args.operation.mode; action = c.args.operation.action; levels = c.args.levels.now; masks = c.args.masks.now; words = c.args.words.now; rows = c.args.vps.now } in
+    let x : Parts = record { setup = c.args.setup; vp = c.args.operation.vp; mode = c.args.operation.mode; action = c.args.operation.action; levels = c.args.parts.now.levels; masks = c.args.parts.now.masks; words = c.args.words.now; rows = c.args.parts.now.vps } in
     on-page x c.requires.1 c.record_count.ensures c.active_of-actor.ensures _ c.in-Read.is _ _ (c.access.ensures _ _ (its-runs x c.requires.1 c.record_count.ensures c.active_of-actor.ensures _ c.in-Read.is) (own-acts x c.requires.1 c.record_count.ensures c.active_of-actor.ensures _ c.in-Read.is) (its-words x c.requires.1 c.record_count.ensures c.active_of-actor.ensures _ c.in-Read.is))
 
 pub returns-in-Write : goal.returns-in-Write
 returns-in-Write c =
-    let x : Parts = record { setup = c.args.setup; vp = c.args.operation.vp; mode = c.args.operation.mode; action = c.args.operation.action; levels = c.args.levels.now; masks = c.args.masks.now; words = c.args.words.now; rows = c.args.vps.now } in
+    let x : Parts = record { setup = c.args.setup; vp = c.args.operation.vp; mode = c.args.operation.mode; action = c.args.operation.action; levels = c.args.parts.now.levels; masks = c.args.parts.now.masks; words = c.args.words.now; rows = c.args.parts.now.vps } in
     on-page x c.requires.1 c.record_count.ensures c.active_of-actor.ensures _ c.in-Write.is _ _ (c.access-in-Write.ensures _ _ (its-runs x c.requires.1 c.record_count.ensures c.active_of-actor.ensures _ c.in-Write.is) (own-acts x c.requires.1 c.record_count.ensures c.active_of-actor.ensures _ c.in-Write.is) (its-words x c.requires.1 c.record_count.ensures c.active_of-actor.ensures _ c.in-Write.is))
 
 pub returns-in-Fetch : goal.returns-in-Fetch
 returns-in-Fetch c =
-    let x : Parts = record { setup = c.args.setup; vp = c.args.operation.vp; mode = c.args.operation.mode; action = c.args.operation.action; levels = c.args.levels.now; masks = c.args.masks.now; words = c.args.words.now; rows = c.args.vps.now } in
+    let x : Parts = record { setup = c.args.setup; vp = c.args.operation.vp; mode = c.args.operation.mode; action = c.args.operation.action; levels = c.args.parts.now.levels; masks = c.args.parts.now.masks; words = c.args.words.now; rows = c.args.parts.now.vps } in
     on-page x c.requires.1 c.record_count.ensures c.active_of-actor.ensures _ c.in-Fetch.is _ _ (c.access-in-Fetch.ensures _ _ (its-runs x c.requires.1 c.record_count.ensures c.active_of-actor.ensures _ c.in-Fetch.is) (own-acts x c.requires.1 c.record_count.ensures c.active_of-actor.ensures _ c.in-Fetch.is) (its-words x c.requires.1 c.record_count.ensures c.active_of-actor.ensures _ c.in-Fetch.is))
 
 pub returns-in-Protect : goal.returns-in-Protect
 returns-in-Protect c =
-    let x : Parts = record { setup = c.args.setup; vp = c.args.operation.vp; mode = c.args.operation.mode; action = c.args.operation.action; levels = c.args.levels.now; masks = c.args.masks.now; words = c.args.words.now; rows = c.args.vps.now } in
+    let x : Parts = record { setup = c.args.setup; vp = c.args.operation.vp; mode = c.args.operation.mode; action = c.args.operation.action; levels = c.args.parts.now.levels; masks = c.args.parts.now.masks; words = c.args.words.now; rows = c.args.parts.now.vps } in
     on-partition x c.requires.1 c.record_count.ensures c.active_of-actor.ensures _ c.in-Protect.is _ _ (c.protect.ensures _ _ (its-acts x c.requires.1 c.record_count.ensures c.active_of-actor.ensures _ c.in-Protect.is))
 
 pub returns-in-Config : goal.returns-in-Config
 returns-in-Config c =
-    let x : Parts = record { setup = c.args.setup; vp = c.args.operation.vp; mode = c.args.operation.mode; action = c.args.operation.action; levels = c.args.levels.now; masks = c.args.masks.now; words = c.args.words.now; rows = c.args.vps.now } in
+    let x : Parts = record { setup = c.args.setup; vp = c.args.operation.vp; mode = c.args.operation.mode; action = c.args.operation.action; levels = c.args.parts.now.levels; masks = c.args.parts.now.masks; words = c.args.words.now; rows = c.args.parts.now.vps } in
     on-partition x c.requires.1 c.record_count.ensures c.active_of-actor.ensures _ c.in-Config.is _ _ (c.config.ensures _ _ (its-acts x c.requires.1 c.record_count.ensures c.active_of-actor.ensures _ c.in-Config.is))
 
 pub returns-in-Secure : goal.returns-in-Secure
 returns-in-Secure c =
-    let x : Parts = record { setup = c.args.setup; vp = c.args.operation.vp; mode = c.args.operation.mode; action = c.args.operation.action; levels = c.args.levels.now; masks = c.args.masks.now; words = c.args.words.now; rows = c.args.vps.now } in
+    let x : Parts = record { setup = c.args.setup; vp = c.args.operation.vp; mode = c.args.operation.mode; action = c.args.operation.action; levels = c.args.parts.now.levels; masks = c.args.parts.now.masks; words = c.args.words.now; rows = c.args.parts.now.vps } in
     on-record x c.requires.1 c.record_count.ensures c.active_of-actor.ensures _ c.in-Secure.is _ (c.secure.ensures _ _ _ (its-runs x c.requires.1 c.record_count.ensures c.active_of-actor.ensures _ c.in-Secure.is) (its-partition x c.requires.1 c.record_count.ensures c.active_of-actor.ensures _ c.in-Secure.is))
 
 pub returns-in-Flush : goal.returns-in-Flush
 returns-in-Flush c =
-    let x : Parts = record { setup = c.args.setup; vp = c.args.operation.vp; mode = c.args.operation.mode; action = c.args.operation.action; levels = c.args.levels.now; masks = c.args.masks.now; words = c.args.words.now; rows = c.args.vps.now } in
+    let x : Parts = record { setup = c.args.setup; vp = c.args.operation.vp; mode = c.args.operation.mode; action = c.args.operation.action; levels = c.args.parts.now.levels; masks = c.args.parts.now.masks; words = c.args.words.now; rows = c.args.parts.now.vps } in
     unchanged x c.requires.1 c.record_count.ensures c.active_of-actor.ensures _ c.in-Flush.is (c.flush.ensures _ _ (its-there x c.requires.1 c.record_count.ensures c.active_of-actor.ensures _ c.in-Flush.is) (locked-on x c.requires.1 c.record_count.ensures c.active_of-actor.ensures _ c.in-Flush.is (c.locked-held.ensures _ _ _)))
 
 pub returns-in-Rreg : goal.returns-in-Rreg
 returns-in-Rreg c =
-    let x : Parts = record { setup = c.args.setup; vp = c.args.operation.vp; mode = c.args.operation.mode; action = c.args.operation.action; levels = c.args.levels.now; masks = c.args.masks.now; words = c.args.words.now; rows = c.args.vps.now } in
+    let x : Parts = record { setup = c.args.setup; vp = c.args.operation.vp; mode = c.args.operation.mode; action = c.args.operation.action; levels = c.args.parts.now.levels; masks = c.args.parts.now.masks; words = c.args.words.now; rows = c.args.parts.now.vps } in
     on-record x c.requires.1 c.record_count.ensures c.active_of-actor.ensures _ c.in-Rreg.is _ (c.rreg.ensures _ _ (its-runs x c.requires.1 c.record_count.ensures c.active_of-actor.ensures _ c.in-Rreg.is))
 
 pub returns-in-Wreg : goal.returns-in-Wreg
 returns-in-Wreg c =
-    let x : Parts = record { setup = c.args.setup; vp = c.args.operation.vp; mode = c.args.operation.mode; action = c.args.operation.action; levels = c.args.levels.now; masks = c.args.masks.now; words = c.args.words.now; rows = c.args.vps.now } in
+    let x : Parts = record { setup = c.args.setup; vp = c.args.operation.vp; mode = c.args.operation.mode; action = c.args.operation.action; levels = c.args.parts.now.levels; masks = c.args.parts.now.masks; words = c.args.words.now; rows = c.args.parts.now.vps } in
     on-record x c.requires.1 c.record_count.ensures c.active_of-actor.ensures _ c.in-Wreg.is _ (c.wreg.ensures _ _ (its-runs x c.requires.1 c.record_count.ensures c.active_of-actor.ensures _ c.in-Wreg.is))
 
 pub returns-in-Tpr : goal.returns-in-Tpr
 returns-in-Tpr c =
-    let x : Parts = record { setup = c.args.setup; vp = c.args.operation.vp; mode = c.args.operation.mode; action = c.args.operation.action; levels = c.args.levels.now; masks = c.args.masks.now; words = c.args.words.now; rows = c.args.vps.now } in
+    let x : Parts = record { setup = c.args.setup; vp = c.args.operation.vp; mode = c.args.operation.mode; action = c.args.operation.action; levels = c.args.parts.now.levels; masks = c.args.parts.now.masks; words = c.args.words.now; rows = c.args.parts.now.vps } in
     on-record x c.requires.1 c.record_count.ensures c.active_of-actor.ensures _ c.in-Tpr.is _ (c.tpr.ensures _ _ (its-runs x c.requires.1 c.record_count.ensures c.active_of-actor.ensures _ c.in-Tpr.is))
 
 pub returns-in-Ack : goal.returns-in-Ack
 returns-in-Ack c =
-    let x : Parts = record { setup = c.args.setup; vp = c.args.operation.vp; mode = c.args.operation.mode; action = c.args.operation.action; levels = c.args.levels.now; masks = c.args.masks.now; words = c.args.words.now; rows = c.args.vps.now } in
+    let x : Parts = record { setup = c.args.setup; vp = c.args.operation.vp; mode = c.args.operation.mode; action = c.args.operation.action; levels = c.args.parts.now.levels; masks = c.args.parts.now.masks; words = c.args.words.now; rows = c.args.parts.now.vps } in
     on-record x c.requires.1 c.record_count.ensures c.active_of-actor.ensures _ c.in-Ack.is _ (c.ack.ensures _ _ (its-runs x c.requires.1 c.record_count.ensures c.active_of-actor.ensures _ c.in-Ack.is))
 
 pub returns-in-Pstat : goal.returns-in-Pstat
 returns-in-Pstat c =
-    let x : Parts = record { setup = c.args.setup; vp = c.args.operation.vp; mode = c.args.operation.mode; action = c.args.operation.action; levels = c.args.levels.now; masks = c.args.masks.now; words = c.args.words.now; rows = c.args.vps.now } in
+    let x : Parts = record { setup = c.args.setup; vp = c.args.operation.vp; mode = c.args.operation.mode; action = c.args.operation.action; levels = c.args.parts.now.levels; masks = c.args.parts.now.masks; words = c.args.words.now; rows = c.args.parts.now.vps } in
     unchanged x c.requires.1 c.record_count.ensures c.active_of-actor.ensures _ c.in-Pstat.is (c.pstat.ensures _ _ _ (its_shape x c.requires.1 c.record_count.ensures c.active_of-actor.ensures _ c.in-Pstat.is) (its-partition x c.requires.1 c.record_count.ensures c.active_of-actor.ensures _ c.in-Pstat.is))
 
 pub returns-in-Vstat : goal.returns-in-Vstat
 returns-in-Vstat c =
-    let x : Parts = record { setup = c.args.setup; vp = c.args.operation.vp; mode = c.args.operation.mode; action = c.args.operation.action; levels = c.args.levels.now; masks = c.args.masks.now; words = c.args.words.now; rows = c.args.vps.now } in
-    unchanged x c.requires.1 c.record_count.ensures c.active_of-actor.ensures _ c.in-Vstat.is (c.vstat.ensures _ _ (its-runs x c.requires.1 c.record_count.ensures c.active_of-actor.ensures _ c.in-Vstat.is))
+    let x : Parts = record { setup = c.args.setup; vp = c.args.operation.vp; mode = c.args.operation.mode; action = c.args.operation.action; levels = c.args.parts.now.levels; masks = c.args.parts.now.masks; words = c.args.words.now; rows = c.args.parts.now.vps } in
+    rw (set-get_or c.args.parts.now.vps c.args.operation.vp.0 [])
+    (unchanged x c.requires.1 c.record_count.ensures c.active_of-actor.ensures _ c.in-Vstat.is (c.vstat.ensures _ _ (its-runs x c.requires.1 c.record_count.ensures c.active_of-actor.ensures _ c.in-Vstat.is)))
 
 pub returns-in-Caps : goal.returns-in-Caps
 returns-in-Caps c =
-    let x : Parts = record { setup = c.args.setup; vp = c.args.operation.vp; mode = c.args.operation.mode; action = c.args.operation.action; levels = c.args.levels.now; masks = c.args.masks.now; words = c.args.words.now; rows = c.args.vps.now } in
+    let x : Parts = record { setup = c.args.setup; vp = c.args.operation.vp; mode = c.args.operation.mode; action = c.args.operation.action; levels = c.args.parts.now.levels; masks = c.args.parts.now.masks; words = c.args.words.now; rows = c.args.parts.now.vps } in
     unchanged x c.requires.1 c.record_count.ensures c.active_of-actor.ensures _ c.in-Caps.is (c.caps.ensures _ _ (its_shape x c.requires.1 c.record_count.ensures c.active_of-actor.ensures _ c.in-Caps.is))
 
 pub returns-in-Cri : goal.returns-in-Cri
 returns-in-Cri c =
-    let x : Parts = record { setup = c.args.setup; vp = c.args.operation.vp; mode = c.args.operation.mode; action = c.args.operation.action; levels = c.args.levels.now; masks = c.args.masks.now; words = c.args.words.now; rows = c.args.vps.now } in
+    let x : Parts = record { setup = c.args.setup; vp = c.args.operation.vp; mode = c.args.operation.mode; action = c.args.operation.action; levels = c.args.parts.now.levels; masks = c.args.parts.now.masks; words = c.args.words.now; rows = c.args.parts.now.vps } in
     on-record x c.requires.1 c.record_count.ensures c.active_of-actor.ensures _ c.in-Cri.is _ (c.cri.ensures _ _ (its-runs x c.requires.1 c.record_count.ensures c.active_of-actor.ensures _ c.in-Cri.is))
 
 pub returns-in-Crm : goal.returns-in-Crm
 returns-in-Crm c =
-    let x : Parts = record { setup = c.args.setup; vp = c.args.operation.vp; mode = c.args.operation.mode; action = c.args.operation.action; levels = c.args.levels.now; masks = c.args.masks.now; words = c.args.words.now; rows = c.args.vps.now } in
+    let x : Parts = record { setup = c.args.setup; vp = c.args.operation.vp; mode = c.args.operation.mode; action = c.args.operation.action; levels = c.args.parts.now.levels; masks = c.args.parts.now.masks; words = c.args.words.now; rows = c.args.parts.now.vps } in
     on-record x c.requires.1 c.record_count.ensures c.active_of-actor.ensures _ c.in-Crm.is _ (c.crm.ensures _ _ (its-runs x c.requires.1 c.record_count.ensures c.active_of-actor.ensures _ c.in-Crm.is))
 
 pub offset_bounds-vps-i : goal.offset_bounds-vps-i

@@ -45,17 +45,17 @@ returns-else-not-is_processor-2 c =
     let on-there : is_index c.args.setup.processors c.in-Int.on.0 ≡ true = sym c.is_processor-in-Int.ensures ∙ c.if-not-is_processor-2.false in
     let there = on-there in
     rw c.in-Int.is
-    (sym (c.int.ensures _ _ (runs c.args.setup c.args.levels.now c.args.masks.now c.args.vps.now c.args.words.now _ there)
-    ∙ ap (outcome_of _) (record-left c.args.setup c.args.levels.now c.args.masks.now c.args.vps.now c.args.words.now _ there _ c.record_count.ensures)))
+    (sym (c.int.ensures _ _ (runs c.args.setup c.args.parts.now.levels c.args.parts.now.masks c.args.parts.now.vps c.args.words.now _ there)
+    ∙ ap (outcome_of _) (record-left c.args.setup c.args.parts.now.levels c.args.parts.now.masks c.args.parts.now.vps c.args.words.now _ there _ c.record_count.ensures)))
 
-pub offset_bounds-vps-j : goal.offset_bounds-vps-j
-offset_bounds-vps-j c =
+pub offset_bounds-parts-j : goal.offset_bounds-parts-j
+offset_bounds-parts-j c =
     let on-there : is_index c.args.setup.processors c.in-Int.on.0 ≡ true = sym c.is_processor-in-Int.ensures ∙ c.if-not-is_processor-2.false in
     let on-low : c.in-Int.on.0 < 4 = index-low c.args.setup.processors _ (on-there) in
     record { fits = omega (arith, on-low) }
 
-pub bounds-vps-j : goal.bounds-vps-j
-bounds-vps-j c =
+pub bounds-parts-j : goal.bounds-parts-j
+bounds-parts-j c =
     let on-there : is_index c.args.setup.processors c.in-Int.on.0 ≡ true = sym c.is_processor-in-Int.ensures ∙ c.if-not-is_processor-2.false in
     let on-low : c.in-Int.on.0 < 4 = index-low c.args.setup.processors _ (on-there) in
     on-low

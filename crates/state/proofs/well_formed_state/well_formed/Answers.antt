@@ -10,7 +10,7 @@ pub returns : goal.returns
 unfolding machine_of partition_of processors max_level_of top pages shape partition well_formed_level enabled_for mbec_for config_of mask_of
 returns c =
     let a = c.args in
-    let masks = a.masks.now in
+    let masks = a.parts.now.masks in
     rw (
       c.mbec_for-lowest.ensures,
       c.valid_mask-host.ensures,
@@ -21,4 +21,4 @@ returns c =
       c.well_formed_place-zero.ensures masks,
       c.in_range-sized.ensures,
     )
-    (state-formed (lent a.setup a.levels.now masks a.vps.now a.words.now))
+    (state-formed (lent a.setup a.parts.now.levels masks a.parts.now.vps a.words.now))
