@@ -11,7 +11,7 @@ ghost use Rattle.partition.specs.Denying.{lowest_in};
 ghost use Rattle.partition.specs.PartitionView.{partition_of};
 ghost use Rattle.processor.specs.Record.{vp_of};
 ghost use Rattle.promise.specs.Promise.{Acts};
-ghost use Rattle.state.specs.Lent.{lent};
+ghost use Rattle.state.specs.Lent.{state_of};
 ghost use Rattle.explanation.specs.Explained.{is_fetch, denial_by, host_only, explanation_of};
 
 use access_events::Request;
@@ -23,6 +23,7 @@ use partition::access::{Attempt, denying_set, host_denies, lowest, needed};
 use partition::level::Levels;
 use partition::mask::{Masks, mask_at};
 use processor::record::{RECORD_WORDS, Record, active_of, enabled_set};
+use state::parts::Parts;
 
 // How a level denies an access: its mask of the page, the bit of a mask that the access wants of it, as a number (1, 2, 4 or 8), and
 // whether MBEC counted.
@@ -161,8 +162,8 @@ pub fn explain_in(
 {
     if (vp.0 < setup.processors) & (vp.0 < 4) {
         let i = vp.0 as usize;
-        return explain(setup, &vps[i], levels, masks, request);
+        return explain(setup, &parts.vps[i], &parts.levels, &parts.masks, request);
     }
     let empty: Record = [0; RECORD_WORDS];
-    explain(setup, &empty, levels, masks, request)
+    explain(setup, &empty, &parts.levels, &parts.masks, request)
 }

@@ -44,9 +44,7 @@ fn explain_on(received: &Received, vp: Processor, request: Request) -> Explanati
 {
     explanation::explain_in(
         received.setup,
-        &received.levels,
-        &received.masks,
-        &received.vps,
+        &received.parts,
         vp,
         request,
     )

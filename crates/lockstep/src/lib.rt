@@ -19,6 +19,7 @@ use model::machine::FirstLine;
 use model::quantity::Level;
 use processor::record::active_of;
 use state::fresh;
+use state::parts::Parts;
 
 mod machine_words; // the parts of a machine in words
 pub mod reason_number; // the numbers of the reasons
@@ -52,10 +53,12 @@ fn open_first(machine: &mut [u64], first: FirstLine)
     let zeros = [0u64; 64];
     let pages = first.pages as usize;
     machine_words::store_words(machine, WORDS, &zeros[..pages]);
-    let levels = fresh::fresh_levels();
-    let masks = fresh::fresh_masks();
-    let vp = fresh::fresh_record();
-    machine_words::store_parts(machine, &levels, &masks, &[vp; 4]);
+    let parts = Parts {
+        levels: fresh::fresh_levels(),
+        masks: fresh::fresh_masks(),
+        vps: [fresh::fresh_record(); 4],
+    };
+    machine_words::store_parts(machine, &parts);
 }
 
 // Makes the fresh machine of a first line in the words of `machine`. Returns 0, or the number of the reason why there is none: there are fewer
@@ -101,9 +104,7 @@ fn answer_event(machine: &mut [u64], event: Event) -> Reply
     ensures { AnsweredIn (stepped_by machine.old (Ok event)) result machine.new }
 {
     let setup = machine_words::setup_in(machine);
-    let mut levels = machine_words::levels_in(machine);
-    let mut masks = machine_words::masks_in(machine);
-    let mut vps = machine_words::records_in(machine);
+    let mut parts = machine_words::parts_in(machine);
     let end = machine_words::words_end(machine);
     let words = &mut machine[WORDS..end];
     let answer = step::step(setup, &mut parts, words, event);
@@ -111,7 +112,7 @@ fn answer_event(machine: &mut [u64], event: Event) -> Reply
     let vp = listing::processor_of(event);
     // The place for vp, which counts only where there is such a processor.
     let place = (vp.0 % 4) as usize;
-    let active = listing::level_on(vp, setup.processors, active_of(&vps[place]));
+    let active = listing::level_on(vp, setup.processors, active_of(&parts.vps[place]));
     told(answer, active)
 }
 

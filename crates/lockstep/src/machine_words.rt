@@ -11,6 +11,7 @@ use model::quantity::Level;
 use partition::level::Levels;
 use partition::mask::Masks;
 use processor::record::{RECORD_WORDS, Record};
+use state::parts::Parts;
 
 // The words of the setup.
 const PROCESSORS: usize = 0;
@@ -115,7 +116,7 @@ pub(crate) fn words_end(machine: &[u64]) -> usize
 }
 
 // What the words hold of the levels, of the masks, and of a processor at a place.
-pub(crate) fn levels_in(machine: &[u64]) -> Levels
+fn levels_in(machine: &[u64]) -> Levels
     requires { machine_words ≤ length machine.now }
     ensures { result ≡ part levels_at level_count machine.now }
 {
@@ -124,7 +125,7 @@ pub(crate) fn levels_in(machine: &[u64]) -> Levels
     levels
 }
 
-pub(crate) fn masks_in(machine: &[u64]) -> Masks
+fn masks_in(machine: &[u64]) -> Masks
     requires { machine_words ≤ length machine.now }
     ensures { result ≡ part masks_at mask_count machine.now }
 {
@@ -144,7 +145,7 @@ fn record_in(machine: &[u64], place: usize) -> Record
 }
 
 // The records of the four processors.
-pub(crate) fn records_in(machine: &[u64]) -> [Record; 4]
+fn records_in(machine: &[u64]) -> [Record; 4]
     requires { machine_words ≤ length machine.now }
     ensures { result ≡ records_in machine.now }
 {
@@ -153,6 +154,20 @@ pub(crate) fn records_in(machine: &[u64]) -> [Record; 4]
     let third = record_in(machine, THIRD_RECORD);
     let fourth = record_in(machine, FOURTH_RECORD);
     [first, second, third, fourth]
+}
+
+// What they hold of all three.
+pub(crate) fn parts_in(machine: &[u64]) -> Parts
+    requires { machine_words ≤ length machine.now }
+    ensures levels { result.levels ≡ part levels_at level_count machine.now }
+    ensures masks { result.masks ≡ part masks_at mask_count machine.now }
+    ensures records { result.vps ≡ records_in machine.now }
+{
+    Parts {
+        levels: levels_in(machine),
+        masks: masks_in(machine),
+        vps: records_in(machine),
+    }
 }
 
 // Stores a processor's record at a place. A proof that stores behind it asks how long it is.
@@ -166,12 +181,13 @@ fn store_record(machine: &mut [u64], place: usize, vp: &Record)
 }
 
 // Stores the parts that a step may change, but for the words of the pages. A proof asks how long they are.
-pub(crate) fn store_parts(machine: &mut [u64], levels: &Levels, masks: &Masks, vps: &[Record; 4])
+pub(crate) fn store_parts(machine: &mut [u64], parts: &Parts)
     requires { machine_words ≤ length machine.old }
     ensures stored { machine.new ≡ sets machine.old levels_at
-        (levels.now ++ masks.now ++ flat vps.now) }
-    ensures sizes { PartSizes levels.now masks.now vps.now }
+        (parts.now.levels ++ parts.now.masks ++ flat parts.now.vps) }
+    ensures sizes { PartSizes parts.now.levels parts.now.masks parts.now.vps }
 {
+    let Parts { levels, masks, vps } = parts;
     let level_words: &[u64] = levels;
     store_words(machine, LEVELS, level_words);
     let mask_words: &[u64] = masks;

@@ -67,9 +67,7 @@ fn write_machine(session: Session, out: &mut [u8; LONGEST_TEXT]) -> usize
     transfer::write::write_records(
         out,
         session.setup,
-        &session.levels,
-        &session.masks,
-        &session.vps,
+        &session.parts,
         &session.words[..lent],
     )
 }
@@ -99,9 +97,7 @@ fn session_of(received: Received) -> Session
 {
     session::on_machine(
         received.setup,
-        received.levels,
-        received.masks,
-        received.vps,
+        received.parts,
         received.words,
     )
 }

@@ -9,7 +9,7 @@ use Rattle.records.specs.Places.{places}
 use Rattle.records.specs.Reading.{Passed, formed_only, from_taken, taking}
 use Rattle.records.specs.RecordTexts.{ended, records_text}
 use Rattle.records.specs.Values.{number}
-use Rattle.reader.specs.Slots.{Parts, parts_of}
+use Rattle.reader.specs.Slots.{Parts, parts_of, parts_with}
 use Rattle.reader.specs.declared.Received.{Received}
 
 -- The state of some parts: as many words as there are pages.
@@ -18,7 +18,7 @@ state_of setup m = lent setup m.levels m.masks m.vps (take setup.pages m.words)
 
 -- The state that was read, and what was read: it, and the lines that follow the bytes used.
 abbrev pub state_in : Received → State
-state_in r = state_of r.setup (parts_of r.levels r.masks r.vps r.words)
+state_in r = state_of r.setup (parts_with r.parts r.words)
 
 abbrev pub passed_in : Option Received → List ℕ → Option Passed
 passed_in None input = None

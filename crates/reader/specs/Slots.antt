@@ -8,6 +8,7 @@ use Rattle.processor.specs.Record.{cr0_mask_index, cr4_mask_index, from, interce
 use Rattle.records.specs.declared.place.Place.{Place}
 use Rattle.records.specs.declared.place.Place.TheVariants.{PartitionEnabled, Mbec, Config, Active, Shared, Register, Tpr, Pending, Enabled, Secure, Reason, From, Rax, Rcx, Word, Mask, Intercepts, Cr0Mask, Cr4Mask}
 use Rattle.records.specs.Values.{number}
+use Rattle.state.specs.declared.parts.Parts.{Parts as Held}
 
 -- The parts that code lends: the words of the levels, the masks, the words of four processors, and the words of the pages.
 pub record Parts : Type 0 where
@@ -18,6 +19,10 @@ pub record Parts : Type 0 where
 
 abbrev pub parts_of : List ℕ → List ℕ → List (List ℕ) → List ℕ → Parts
 parts_of levels masks vps words = record { levels = levels; masks = masks; vps = vps; words = words }
+
+-- The parts of a machine whose levels, masks and processors are held as one.
+abbrev pub parts_with : Held → List ℕ → Parts
+parts_with held words = parts_of held.levels held.masks held.vps words
 
 -- One array of words among the parts: of the levels, the masks, the page words, or the record of a processor.
 pub data Array : Type 0 where

@@ -10,10 +10,9 @@ use crate::first::first_record;
 use crate::places::{after_line, read_places};
 use chunk::{at_most, line_end};
 use model::machine::Setup;
-use partition::level::Levels;
-use partition::mask::Masks;
 use processor::record::{ENABLED, RECORD_WORDS, Record};
 use state::fresh::{admissible, setup_of};
+use state::parts::Parts;
 use state::well_formed_state::well_formed;
 
 mod first; // the first record
@@ -21,15 +20,13 @@ mod line; // what a line says of a place
 mod places; // the records after the first
 mod store; // a quantity stored at a place
 
-// What reading gives: how many bytes the records take, and the machine in its parts: what stays the same, the words of the levels, the
-// masks, the records of four processors, and the words of the pages, as many as there are. The words beyond the pages are left open.
+// What reading gives: how many bytes the records take, and the machine in its parts: what stays the same, what it holds
+// of levels, masks and processors, and the words of the pages, as many as there are. The words beyond the pages are left open.
 #[derive(Clone, Copy)]
 pub struct Received {
     pub used: usize,
     pub setup: Setup,
-    pub levels: Levels,
-    pub masks: Masks,
-    pub vps: [Record; 4],
+    pub parts: Parts,
     pub words: [u64; 64],
 }
 
@@ -76,9 +73,11 @@ fn receive(input: &[u8], from: usize, setup: Setup) -> Option<Received>
     ensures passed { passed_in result input.now ≡ wanted setup input.now from }
     ensures used { Placed setup from result input.now }
 {
-    let mut levels: Levels = [LEVEL_ZERO_ALONE, 0, 0, 0, 0, 0];
-    let mut masks: Masks = [0; 256];
-    let mut vps = blank_records(setup.processors);
+    let mut parts = Parts {
+        levels: [LEVEL_ZERO_ALONE, 0, 0, 0, 0, 0],
+        masks: [0; 256],
+        vps: blank_records(setup.processors),
+    };
     let mut words = [0u64; 64];
     let used = read_places(
         input,
@@ -94,9 +93,7 @@ fn receive(input: &[u8], from: usize, setup: Setup) -> Option<Received>
     Some(Received {
         used,
         setup,
-        levels,
-        masks,
-        vps,
+        parts,
         words,
     })
 }

@@ -1,16 +1,14 @@
 // The records after the first, read line after line along the walk (02, request 2), and stored.
 ghost use Rattle.std.specs.Prelude.{◌≡◌, min, ◌+◌, ◌≤◌, length};
 ghost use Rattle.reader.specs.Received.{Few, Taken, blank_parts};
-ghost use Rattle.reader.specs.Slots.{parts_of};
+ghost use Rattle.reader.specs.Slots.{parts_with};
 
 use crate::line::line_value;
 use crate::store::store;
 use chunk::line_end;
 use model::machine::Setup;
-use partition::level::Levels;
-use partition::mask::Masks;
-use processor::record::Record;
 use records::walk;
+use state::parts::Parts;
 
 // The place after a line that ends at `end`, and after its line feed if it has one.
 pub(crate) fn after_line(input: &[u8], end: usize) -> usize
@@ -32,9 +30,9 @@ pub(crate) fn read_places(
 ) -> Option<usize>
     requires from_in_bounds { from ≤ length input.now }
     requires few { Few setup }
-    requires words_value { parts_of levels.old masks.old vps.old words.old ≡ blank_parts setup }
+    requires words_value { parts_with parts.old words.old ≡ blank_parts setup }
     ensures { Taken setup input.now from result
-        (parts_of levels.new masks.new vps.new words.new) }
+        (parts_with parts.new words.new) }
 {
     let mut at = from;
     let mut due = walk::first(setup);

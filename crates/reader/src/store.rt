@@ -2,7 +2,7 @@
 ghost use Rattle.std.specs.Prelude.{◌≡◌, [], ◌+◌, ◌*◌, ◌<◌, get_or, set};
 ghost use Rattle.word.specs.Field.{put as put_bits};
 ghost use Rattle.processor.specs.Record.{level_words, record_words};
-ghost use Rattle.reader.specs.Slots.{Room, parts_of, stored};
+ghost use Rattle.reader.specs.Slots.{Room, parts_with, stored};
 
 use model::quantity::{Level, Page, Processor};
 use partition::level::Levels;
@@ -10,6 +10,7 @@ use partition::mask::Masks;
 use processor::record;
 use processor::record::Record;
 use records::place::Place;
+use state::parts::Parts;
 use word::field::put;
 
 // The words of the levels: the sets of those that are enabled and that have MBEC, and the configuration words.
@@ -115,10 +116,9 @@ pub(crate) fn store(
     x: u64,
 )
     requires { Room place }
-    ensures { parts_of levels.new masks.new vps.new words.new
-        ≡ stored place x
-        (parts_of levels.old masks.old vps.old words.old) }
+    ensures { parts_with parts.new words.new ≡ stored place x (parts_with parts.old words.old) }
 {
+    let Parts { levels, masks, vps } = parts;
     match place {
         Place::PartitionEnabled(t) => set_level_flag(levels, ENABLED, t, x),
         Place::Mbec(t) => set_level_flag(levels, MBEC, t, x),

@@ -4,7 +4,7 @@
 
 ghost use Rattle.std.specs.Prelude.{List, ◌≡◌, ℕ};
 ghost use Rattle.reason.specs.Reasons.{cause_of, denied_by, reason_for};
-ghost use Rattle.state.specs.Lent.{lent};
+ghost use Rattle.state.specs.Lent.{state_of};
 
 use access_events::Request;
 use asked::Asked;
@@ -13,9 +13,7 @@ use listing::refusal_number;
 use model::answer::{Answer, Refusal};
 use model::machine::Setup;
 use model::quantity::mode_of;
-use partition::level::Levels;
-use partition::mask::Masks;
-use processor::record::Record;
+use state::parts::Parts;
 
 mod reason_names; // the name of each refusal
 mod reason_text; // a line of the listing with reasons

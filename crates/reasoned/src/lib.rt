@@ -74,9 +74,7 @@ fn end_later(start: Session, out: &mut [u8; LONGEST_REASONED]) -> Written
 {
     let number = start.number;
     let next = std::num::wrapping_add_u64(number, 1);
-    let mut levels = start.levels;
-    let mut masks = start.masks;
-    let mut vps = start.vps;
+    let mut parts = start.parts;
     let mut words = start.words;
     let lent = session::lent_words(&words, start.lent);
     let size = chunk::held_length(&start.line, start.length);

@@ -4,7 +4,7 @@ ghost use Rattle.std.specs.Prelude.{Err, Ok};
 ghost use Rattle.asked.specs.AskedAccess.{asked_by};
 ghost use Rattle.reason.specs.Reasons.{cause_of};
 ghost use Rattle.reasoned.specs.ReasonedParts.{ToldBy};
-ghost use Rattle.state.specs.Lent.{lent};
+ghost use Rattle.state.specs.Lent.{state_of};
 
 use asked::asked_by;
 use explanation::Explanation;
@@ -13,9 +13,8 @@ use model::answer::{Answer, Refusal};
 use model::event::Event;
 use model::machine::Setup;
 use model::quantity::Level;
-use partition::level::Levels;
-use partition::mask::Masks;
-use processor::record::{Record, active_of};
+use processor::record::active_of;
+use state::parts::Parts;
 use reason::{Reason, cause_of, reason_for};
 use state::well_formed_state::well_formed;
 
@@ -43,7 +42,7 @@ fn tell_event(
     let answer = step::step_if(formed, setup, parts, words, event);
     // The place for vp, which counts only where there is such a processor.
     let place = (vp.0 % 4) as usize;
-    let active = listing::level_on(vp, setup.processors, active_of(&vps[place]));
+    let active = listing::level_on(vp, setup.processors, active_of(&parts.vps[place]));
     Told {
         shown: listing::show(answer, active),
         why: reason_for(cause, answer),

@@ -5,7 +5,7 @@ use Rattle.model.specs.State.{State}
 use Rattle.chunk.specs.Chunk.{held, kept_bytes}
 use Rattle.script.specs.EventForms.{line_event}
 use Rattle.script.specs.First.{line_first}
-use Rattle.state.specs.Lent.{lent}
+use Rattle.state.specs.Lent.{state_of}
 use Rattle.session.specs.declared.Phase.{Phase}
 use Rattle.session.specs.declared.Phase.TheVariants as phase
 use Rattle.session.specs.declared.Session.{Session}
@@ -34,7 +34,7 @@ lent_of words lent = take (min lent 64) words
 
 -- The state of a session.
 abbrev pub state_in : Session → State
-state_in s = lent s.setup s.levels s.masks s.vps (lent_of s.words s.lent)
+state_in s = state_of s.setup s.parts (lent_of s.words s.lent)
 
 -- What a session stands for. The buffer beyond the bytes of the line, and the words beyond those of the pages, are no part of it.
 abbrev pub progress_of : Session → Progress

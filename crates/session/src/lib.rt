@@ -6,12 +6,10 @@ ghost use Rattle.std.specs.Prelude.{◌≡◌, min, [], ◌∷◌, length};
 ghost use Rattle.std.proofs.lemmas.List.Edits.{sets};
 ghost use Rattle.session.specs.Session.{Bounds, fed, first, is_stopped, last_ended, last_text, later, lent_of};
 ghost use Rattle.session.specs.Session.{progress_of, stopped as stopped_session};
-ghost use Rattle.state.specs.Lent.{lent};
+ghost use Rattle.state.specs.Lent.{state_of};
 
 use model::machine::Setup;
-use partition::level::Levels;
-use partition::mask::Masks;
-use processor::record::Record;
+use state::parts::Parts;
 
 mod line_answer; // what a line is answered
 mod lines; // lines that end
@@ -40,11 +38,9 @@ pub struct Session {
     // The beginning of a line that goes on in the next chunk: the first `length` bytes of the buffer.
     pub length: usize,
     pub line: [u8; chunk::KEPT_BYTES],
-    // The machine in its parts: what stays the same, the words of the levels, the masks, and the records of four processors.
+    // The machine in its parts: what stays the same, and what it holds of levels, masks and processors.
     pub setup: Setup,
-    pub levels: Levels,
-    pub masks: Masks,
-    pub vps: [Record; 4],
+    pub parts: Parts,
     // The words of its pages: the first `lent` of the array.
     pub lent: usize,
     pub words: [u64; 64],
@@ -82,12 +78,10 @@ pub fn refused() -> Session
 // A session before line 1 on a machine whose parts are given, with as many words as the machine has pages.
 pub fn on_machine(
     setup: Setup,
-    levels: Levels,
-    masks: Masks,
-    vps: [Record; 4],
+    parts: Parts,
     words: [u64; 64],
 ) -> Session
-    ensures { progress_of result ≡ later 1 (lent setup levels masks vps (lent_of words setup.pages)) [] }
+    ensures { progress_of result ≡ later 1 (state_of setup parts (lent_of words setup.pages)) [] }
 {
     Session {
         phase: Phase::Later,
@@ -95,9 +89,7 @@ pub fn on_machine(
         length: 0,
         line: [0; chunk::KEPT_BYTES],
         setup,
-        levels,
-        masks,
-        vps,
+        parts,
         lent: setup.pages as usize,
         words,
     }

@@ -3,16 +3,15 @@ ghost use Rattle.std.specs.Prelude.{◌≡◌, Err, Ok};
 ghost use Rattle.model.specs.WellFormed.{well_formed};
 ghost use Rattle.script.specs.EventForms.{line_event};
 ghost use Rattle.session.specs.SessionParts.{AnsweredBy};
-ghost use Rattle.state.specs.Lent.{lent};
+ghost use Rattle.state.specs.Lent.{state_of};
 
 use listing::Shown;
 use model::answer::Answer;
 use model::event::Event;
 use model::machine::Setup;
 use model::quantity::Level;
-use partition::level::Levels;
-use partition::mask::Masks;
-use processor::record::{Record, active_of};
+use processor::record::active_of;
+use state::parts::Parts;
 
 // What an event is answered, in a state that is well formed as `formed` tells.
 fn answer_event(
@@ -31,7 +30,7 @@ fn answer_event(
     let answer = step::step_if(formed, setup, parts, words, event);
     // The place for vp, which counts only where there is such a processor.
     let place = (vp.0 % 4) as usize;
-    let active = listing::level_on(vp, setup.processors, active_of(&vps[place]));
+    let active = listing::level_on(vp, setup.processors, active_of(&parts.vps[place]));
     listing::show(answer, active)
 }
 

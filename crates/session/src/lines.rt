@@ -1,7 +1,7 @@
 // Lines that end: the first, later ones, and those that lie whole in a chunk. What is written is the record of the line.
 ghost use Rattle.std.specs.Prelude.{◌≡◌, ◌-◌, ◌≤◌, true, [], ◌∷◌, length, drop, replicate, None, Some};
 ghost use Rattle.model.specs.Fresh.{admissible, fresh};
-ghost use Rattle.state.specs.Lent.{lent};
+ghost use Rattle.state.specs.Lent.{state_of};
 ghost use Rattle.session.specs.SessionParts.{EndedBy, FedFrom, blank_in, has_stopped, is_later};
 ghost use Rattle.session.specs.Session.{begun, ended, extended, fed, first, kept, later, lent_of};
 ghost use Rattle.session.specs.Session.{progress_in, progress_of, state_in};
@@ -14,10 +14,8 @@ use crate::{Fed, LONGEST_RECORD, Phase, Session, Written, lent_words, listing_re
 use listing::Shown;
 use model::machine::FirstLine;
 use model::quantity::Level;
-use partition::level::Levels;
-use partition::mask::Masks;
-use processor::record::Record;
 use state::fresh;
+use state::parts::Parts;
 use state::well_formed_state::well_formed;
 
 // Whether a session is in this phase: stopped after a refused first line, or in a later line.
@@ -45,9 +43,11 @@ fn opened(phase: Phase, number: u64, first: FirstLine, lent: usize) -> Session
         length: 0,
         line: [0; chunk::KEPT_BYTES],
         setup: fresh::setup_of(first),
-        levels: fresh::fresh_levels(),
-        masks: fresh::fresh_masks(),
-        vps: [fresh::fresh_record(); 4],
+        parts: Parts {
+            levels: fresh::fresh_levels(),
+            masks: fresh::fresh_masks(),
+            vps: [fresh::fresh_record(); 4],
+        },
         lent,
         words: [0; 64],
     }
@@ -72,21 +72,17 @@ pub(crate) fn blank(phase: Phase) -> Session
 pub fn after_line(
     start: Session,
     number: u64,
-    levels: Levels,
-    masks: Masks,
-    vps: [Record; 4],
+    parts: Parts,
     words: [u64; 64],
 ) -> Session
     ensures { progress_of result
-        ≡ later number (lent start.setup levels masks vps (lent_of words start.lent)) [] }
+        ≡ later number (state_of start.setup parts (lent_of words start.lent)) [] }
 {
     Session {
         phase: Phase::Later,
         number,
         length: 0,
-        levels,
-        masks,
-        vps,
+        parts,
         words,
         ..start
     }
@@ -161,9 +157,7 @@ fn end_later(start: Session, out: &mut [u8]) -> Written
     let number = start.number;
     let next = std::num::wrapping_add_u64(number, 1);
     let setup = start.setup;
-    let mut levels = start.levels;
-    let mut masks = start.masks;
-    let mut vps = start.vps;
+    let mut parts = start.parts;
     let mut words = start.words;
     let lent = lent_words(&words, start.lent);
     let formed = well_formed(setup, &parts, &words[..lent]);
@@ -213,9 +207,7 @@ pub(crate) fn feed_later(
         result out.old out.new }
 {
     let setup = start.setup;
-    let mut levels = start.levels;
-    let mut masks = start.masks;
-    let mut vps = start.vps;
+    let mut parts = start.parts;
     let mut words = start.words;
     let mut line = listing_record::line_number(start.number);
     let lent = lent_words(&words, start.lent);

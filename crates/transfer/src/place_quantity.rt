@@ -4,18 +4,19 @@ ghost use Rattle.word.specs.Field.{bit};
 ghost use Rattle.processor.specs.Record.{level_words, record_words};
 ghost use Rattle.records.specs.Places.{has};
 ghost use Rattle.records.specs.Values.{number as number_of, value_at};
-ghost use Rattle.state.specs.Lent.{lent};
+ghost use Rattle.state.specs.Lent.{state_of};
 
 use crate::record_text::number;
 use model::machine::Setup;
 use model::quantity::{Level, Page, Processor};
 use model::register::DR6;
 use model::set::{LevelSet, in_set};
-use partition::level::{Levels, config_at, enabled_for, mbec_for};
-use partition::mask::{Masks, mask_at};
+use partition::level::{config_at, enabled_for, mbec_for};
+use partition::mask::mask_at;
 use processor::record;
 use processor::record::Record;
 use records::place::Place;
+use state::parts::Parts;
 
 // A word of a processor's record.
 fn word_of(vp: &Record, i: u64) -> u64
@@ -78,6 +79,7 @@ pub(crate) fn quantity(
     requires { (has setup place ≡ true) × (length words.now ≡ setup.pages) }
     ensures { result ≡ value_at (state_of setup parts.now words.now) place }
 {
+    let Parts { levels, masks, vps } = parts;
     let shape = setup.shape;
     match place {
         Place::PartitionEnabled(t) => number(enabled_for(shape, levels, t)),

@@ -4,16 +4,14 @@ ghost use Rattle.std.proofs.lemmas.List.Edits.{sets};
 ghost use Rattle.decimal.specs.Write.{after_text, with_text};
 ghost use Rattle.model.specs.WellFormed.{well_formed};
 ghost use Rattle.records.specs.RecordTexts.{longest_text, records_text};
-ghost use Rattle.state.specs.Lent.{lent};
+ghost use Rattle.state.specs.Lent.{state_of};
 ghost use Rattle.transfer.specs.Sent.{places_text, sent_text};
 
 use crate::place_quantity::quantity;
 use crate::record_text::{put, write_first, write_record};
 use model::machine::Setup;
-use partition::level::Levels;
-use partition::mask::Masks;
-use processor::record::Record;
 use records::walk;
+use state::parts::Parts;
 use state::well_formed_state::well_formed;
 
 // The room that the records of any well-formed machine need.

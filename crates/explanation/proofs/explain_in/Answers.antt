@@ -13,11 +13,11 @@ bounds-vps-i c = index-low _ _ c.if-vp-setup.true
 pub returns-then-vp-setup : goal.returns-then-vp-setup
 returns-then-vp-setup c words =
     let a = c.args in
-    let holds = there a.setup a.levels.now a.masks.now a.vps.now words a.vp.0 c.if-vp-setup.true in
-    c.explain.ensures _ _ (acts a.setup a.levels.now a.masks.now a.vps.now words a.vp.0 _ holds) holds (hosted a.setup a.levels.now a.masks.now a.vps.now words _)
+    let holds = there a.setup a.parts.now.levels a.parts.now.masks a.parts.now.vps words a.vp.0 c.if-vp-setup.true in
+    c.explain.ensures _ _ (acts a.setup a.parts.now.levels a.parts.now.masks a.parts.now.vps words a.vp.0 _ holds) holds (hosted a.setup a.parts.now.levels a.parts.now.masks a.parts.now.vps words _)
 
 pub returns : goal.returns
 returns c words =
     let a = c.args in
-    let holds = missing a.setup a.levels.now a.masks.now a.vps.now words a.vp.0 c.if-vp-setup.false in
-    c.explain-2.ensures _ _ (acts a.setup a.levels.now a.masks.now a.vps.now words a.vp.0 _ holds) holds (hosted a.setup a.levels.now a.masks.now a.vps.now words _)
+    let holds = missing a.setup a.parts.now.levels a.parts.now.masks a.parts.now.vps words a.vp.0 c.if-vp-setup.false in
+    c.explain-2.ensures _ _ (acts a.setup a.parts.now.levels a.parts.now.masks a.parts.now.vps words a.vp.0 _ holds) holds (hosted a.setup a.parts.now.levels a.parts.now.masks a.parts.now.vps words _)

@@ -21,7 +21,7 @@ returns c =
     let a = c.args in
     let w = c.tell-told.ensures in
     let line = take c.held_length-size.result a.start.line in
-    let s = lent a.start.setup a.start.levels a.start.masks c.args.start.vps (take c.lent_words-lent.result a.start.words) in
+    let s = lent a.start.setup a.start.parts.levels a.start.parts.masks c.args.start.parts.vps (take c.lent_words-lent.result a.start.words) in
     let text = later-text a.start.number s line _ _ _ c.parse-parsed.ensures w.shown w.why in
     rw (← c.lent_words-lent.ensures.number, ← held-taken a.start.line a.start.length _ c.held_length-size.ensures)
     (record {

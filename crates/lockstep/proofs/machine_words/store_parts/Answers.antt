@@ -12,9 +12,9 @@ returns c =
     let third = c.store_record-3.ensures in
     let second = c.store_record-2.ensures in
     let first = c.store_record.ensures in
-    let rows = a.vps.now in record {
+    let rows = a.parts.now.vps in record {
       stored = rw (fourth.stored, third.stored, second.stored, first.stored, c.store_words-2.ensures, c.store_words.ensures)
-          (parts-stored a.machine.now a.levels.now a.masks.now (get_or rows 0 []) (get_or rows 1 []) (get_or rows 2 []) (get_or rows 3 [])
+          (parts-stored a.machine.now a.parts.now.levels a.parts.now.masks (get_or rows 0 []) (get_or rows 1 []) (get_or rows 2 []) (get_or rows 3 [])
           (search rules) (search rules) first.size second.size third.size);
       sizes = record {
         levels-length = search rules;

@@ -9,7 +9,7 @@ use Rattle.reader.proofs.places.read_places.Given as goal
 
 abbrev pub invariant-loop-due : goal.invariant-loop-due
 invariant-loop-due l =
-    Reads l.setup l.input l.from (parts_of l.levels l.masks l.vps l.words) l.at l.due
+    Reads l.setup l.input l.from (parts_of l.parts.levels l.parts.masks l.parts.vps l.words) l.at l.due
 
 abbrev pub decreases-loop-due : goal.decreases-loop-due
 decreases-loop-due l = end_rank l.setup - due_rank l.setup l.due

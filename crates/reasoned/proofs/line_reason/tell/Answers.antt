@@ -12,6 +12,6 @@ returns-in-Ok c =
 pub returns-in-Err : goal.returns-in-Err
 returns-in-Err c =
     let a = c.args in
-    let s = lent a.setup a.levels.now a.masks.now a.vps.now a.words.now in
+    let s = lent a.setup a.parts.now.levels a.parts.now.masks a.parts.now.vps a.words.now in
     rw (← c.asked_by-asked.ensures, c.cause_of-cause.ensures a.words.now, c.in-Err.is)
     (record { next = refl; shown = c.show.ensures ∙ shown-malformed s c.in-Err.refusal; why = c.reason_for.ensures })

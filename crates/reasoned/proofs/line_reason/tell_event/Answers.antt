@@ -13,7 +13,7 @@ pub returns : goal.returns
 unfolding machine_of active_of
 returns c =
     let a = c.args in
-    let s = lent a.setup a.levels.now a.masks.now a.vps.now a.words.now in
+    let s = lent a.setup a.parts.now.levels a.parts.now.masks a.parts.now.vps a.words.now in
     let low : c.processor_of-vp.result.0 % 4 < 4 = omega arith in
     record {
       next = told-next s _ a.event c.well_formed-formed.result c.well_formed-formed.ensures _ c.step_if-answer.ensures;

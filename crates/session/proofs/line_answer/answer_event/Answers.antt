@@ -13,7 +13,7 @@ returns c =
     let done = c.step_if-answer in
     let on = c.processor_of-vp in
     let active = c.level_on-active in
-    let s = lent a.setup a.levels.now a.masks.now a.vps.now a.words.now in
+    let s = lent a.setup a.parts.now.levels a.parts.now.masks a.parts.now.vps a.words.now in
     let low : on.result.0 % 4 < 4 = omega arith in
     record {
       next = told-next s _ a.event a.formed c.requires _ done.ensures;

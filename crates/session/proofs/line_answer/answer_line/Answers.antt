@@ -12,7 +12,7 @@ returns-in-Ok c =
 pub returns-in-Err : goal.returns-in-Err
 returns-in-Err c =
     let a = c.args in
-    let told = told-malformed (lent a.setup a.levels.now a.masks.now a.vps.now a.words.now) _ _
+    let told = told-malformed (lent a.setup a.parts.now.levels a.parts.now.masks a.parts.now.vps a.words.now) _ _
     (sym c.parse-parsed.ensures ∙ c.in-Err.is) in
     record { next = told.0; kept = c.requires; shown = c.show.ensures ∙ told.1 }
 

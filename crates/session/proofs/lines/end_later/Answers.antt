@@ -27,7 +27,7 @@ returns c =
     let words = c.lent_words-lent in
     let a = c.args in
     let size = c.held_length-size in
-    let s = lent a.start.setup a.start.levels a.start.masks a.start.vps (take words.result a.start.words) in
+    let s = lent a.start.setup a.start.parts.levels a.start.parts.masks a.start.parts.vps (take words.result a.start.words) in
     let e = ended_by a.start.number s _ (take size.result a.start.line) _ w.ensures.next (ap (shown_text a.start.number) w.ensures.shown) in
     rw (← words.ensures.number, ← held-taken a.start.line a.start.length _ size.ensures)
     (record {

@@ -11,8 +11,8 @@ use Rattle.session.proofs.lines.feed_later.Given as goal
 abbrev pub invariant-loop-setup : goal.invariant-loop-setup
 invariant-loop-setup l =
     (length l.words ≡ 64)
-    × (l.formed ≡ well_formed (lent l.setup l.levels l.masks l.vps (take l.lent l.words)))
-    × Feeds (later l.start.number (state_in l.start) []) l.chunk l.from l.initial.out l.at l.out (later l.line.number (lent l.setup l.levels l.masks l.vps (take l.lent l.words)) []) l.i l.wrote
+    × (l.formed ≡ well_formed (lent l.setup l.parts.levels l.parts.masks l.parts.vps (take l.lent l.words)))
+    × Feeds (later l.start.number (state_in l.start) []) l.chunk l.from l.initial.out l.at l.out (later l.line.number (lent l.setup l.parts.levels l.parts.masks l.parts.vps (take l.lent l.words)) []) l.i l.wrote
     × Numbered l.line l.line.number
 
 abbrev pub decreases-loop-setup : goal.decreases-loop-setup

@@ -100,114 +100,114 @@ row_word-requires-in-Cr4Mask c =
 
 pub returns-in-PartitionEnabled : goal.returns-in-PartitionEnabled
 returns-in-PartitionEnabled c =
-    let told : (q : Place) → c.args.place ≡ q → kept_at c.args.setup c.args.levels.now c.args.masks.now c.args.vps.now c.args.words.now q ≡ value_at (lent c.args.setup c.args.levels.now c.args.masks.now c.args.vps.now c.args.words.now) c.args.place = λ q e. ap (kept_at c.args.setup c.args.levels.now c.args.masks.now c.args.vps.now c.args.words.now) (sym e)
-    ∙ kept c.args.setup c.args.levels.now c.args.masks.now c.args.vps.now c.args.words.now c.args.place c.requires.0 in
+    let told : (q : Place) → c.args.place ≡ q → kept_at c.args.setup c.args.parts.now.levels c.args.parts.now.masks c.args.parts.now.vps c.args.words.now q ≡ value_at (lent c.args.setup c.args.parts.now.levels c.args.parts.now.masks c.args.parts.now.vps c.args.words.now) c.args.place = λ q e. ap (kept_at c.args.setup c.args.parts.now.levels c.args.parts.now.masks c.args.parts.now.vps c.args.words.now) (sym e)
+    ∙ kept c.args.setup c.args.parts.now.levels c.args.parts.now.masks c.args.parts.now.vps c.args.words.now c.args.place c.requires.0 in
     c.number.ensures ∙ ap number c.enabled_for.ensures ∙ told _ c.in-PartitionEnabled.is
 
 pub returns-in-Mbec : goal.returns-in-Mbec
 returns-in-Mbec c =
-    let told : (q : Place) → c.args.place ≡ q → kept_at c.args.setup c.args.levels.now c.args.masks.now c.args.vps.now c.args.words.now q ≡ value_at (lent c.args.setup c.args.levels.now c.args.masks.now c.args.vps.now c.args.words.now) c.args.place = λ q e. ap (kept_at c.args.setup c.args.levels.now c.args.masks.now c.args.vps.now c.args.words.now) (sym e)
-    ∙ kept c.args.setup c.args.levels.now c.args.masks.now c.args.vps.now c.args.words.now c.args.place c.requires.0 in
+    let told : (q : Place) → c.args.place ≡ q → kept_at c.args.setup c.args.parts.now.levels c.args.parts.now.masks c.args.parts.now.vps c.args.words.now q ≡ value_at (lent c.args.setup c.args.parts.now.levels c.args.parts.now.masks c.args.parts.now.vps c.args.words.now) c.args.place = λ q e. ap (kept_at c.args.setup c.args.parts.now.levels c.args.parts.now.masks c.args.parts.now.vps c.args.words.now) (sym e)
+    ∙ kept c.args.setup c.args.parts.now.levels c.args.parts.now.masks c.args.parts.now.vps c.args.words.now c.args.place c.requires.0 in
     c.number-in-Mbec.ensures ∙ ap number c.mbec_for.ensures ∙ told _ c.in-Mbec.is
 
 pub returns-in-Config : goal.returns-in-Config
 returns-in-Config c =
-    let told : (q : Place) → c.args.place ≡ q → kept_at c.args.setup c.args.levels.now c.args.masks.now c.args.vps.now c.args.words.now q ≡ value_at (lent c.args.setup c.args.levels.now c.args.masks.now c.args.vps.now c.args.words.now) c.args.place = λ q e. ap (kept_at c.args.setup c.args.levels.now c.args.masks.now c.args.vps.now c.args.words.now) (sym e)
-    ∙ kept c.args.setup c.args.levels.now c.args.masks.now c.args.vps.now c.args.words.now c.args.place c.requires.0 in
+    let told : (q : Place) → c.args.place ≡ q → kept_at c.args.setup c.args.parts.now.levels c.args.parts.now.masks c.args.parts.now.vps c.args.words.now q ≡ value_at (lent c.args.setup c.args.parts.now.levels c.args.parts.now.masks c.args.parts.now.vps c.args.words.now) c.args.place = λ q e. ap (kept_at c.args.setup c.args.parts.now.levels c.args.parts.now.masks c.args.parts.now.vps c.args.words.now) (sym e)
+    ∙ kept c.args.setup c.args.parts.now.levels c.args.parts.now.masks c.args.parts.now.vps c.args.words.now c.args.place c.requires.0 in
     c.config_at.ensures ∙ told _ c.in-Config.is
 
 pub returns-in-Active : goal.returns-in-Active
 returns-in-Active c =
-    let told : (q : Place) → c.args.place ≡ q → kept_at c.args.setup c.args.levels.now c.args.masks.now c.args.vps.now c.args.words.now q ≡ value_at (lent c.args.setup c.args.levels.now c.args.masks.now c.args.vps.now c.args.words.now) c.args.place = λ q e. ap (kept_at c.args.setup c.args.levels.now c.args.masks.now c.args.vps.now c.args.words.now) (sym e)
-    ∙ kept c.args.setup c.args.levels.now c.args.masks.now c.args.vps.now c.args.words.now c.args.place c.requires.0 in
+    let told : (q : Place) → c.args.place ≡ q → kept_at c.args.setup c.args.parts.now.levels c.args.parts.now.masks c.args.parts.now.vps c.args.words.now q ≡ value_at (lent c.args.setup c.args.parts.now.levels c.args.parts.now.masks c.args.parts.now.vps c.args.words.now) c.args.place = λ q e. ap (kept_at c.args.setup c.args.parts.now.levels c.args.parts.now.masks c.args.parts.now.vps c.args.words.now) (sym e)
+    ∙ kept c.args.setup c.args.parts.now.levels c.args.parts.now.masks c.args.parts.now.vps c.args.words.now c.args.place c.requires.0 in
     c.record_word.ensures ∙ told _ c.in-Active.is
 
 pub returns-in-Shared : goal.returns-in-Shared
 returns-in-Shared c =
-    let told : (q : Place) → c.args.place ≡ q → kept_at c.args.setup c.args.levels.now c.args.masks.now c.args.vps.now c.args.words.now q ≡ value_at (lent c.args.setup c.args.levels.now c.args.masks.now c.args.vps.now c.args.words.now) c.args.place = λ q e. ap (kept_at c.args.setup c.args.levels.now c.args.masks.now c.args.vps.now c.args.words.now) (sym e)
-    ∙ kept c.args.setup c.args.levels.now c.args.masks.now c.args.vps.now c.args.words.now c.args.place c.requires.0 in
+    let told : (q : Place) → c.args.place ≡ q → kept_at c.args.setup c.args.parts.now.levels c.args.parts.now.masks c.args.parts.now.vps c.args.words.now q ≡ value_at (lent c.args.setup c.args.parts.now.levels c.args.parts.now.masks c.args.parts.now.vps c.args.words.now) c.args.place = λ q e. ap (kept_at c.args.setup c.args.parts.now.levels c.args.parts.now.masks c.args.parts.now.vps c.args.words.now) (sym e)
+    ∙ kept c.args.setup c.args.parts.now.levels c.args.parts.now.masks c.args.parts.now.vps c.args.words.now c.args.place c.requires.0 in
     c.record_word-in-Shared.ensures ∙ told _ c.in-Shared.is
 
 pub returns-in-Register : goal.returns-in-Register
 returns-in-Register c =
-    let told : (q : Place) → c.args.place ≡ q → kept_at c.args.setup c.args.levels.now c.args.masks.now c.args.vps.now c.args.words.now q ≡ value_at (lent c.args.setup c.args.levels.now c.args.masks.now c.args.vps.now c.args.words.now) c.args.place = λ q e. ap (kept_at c.args.setup c.args.levels.now c.args.masks.now c.args.vps.now c.args.words.now) (sym e)
-    ∙ kept c.args.setup c.args.levels.now c.args.masks.now c.args.vps.now c.args.words.now c.args.place c.requires.0 in
+    let told : (q : Place) → c.args.place ≡ q → kept_at c.args.setup c.args.parts.now.levels c.args.parts.now.masks c.args.parts.now.vps c.args.words.now q ≡ value_at (lent c.args.setup c.args.parts.now.levels c.args.parts.now.masks c.args.parts.now.vps c.args.words.now) c.args.place = λ q e. ap (kept_at c.args.setup c.args.parts.now.levels c.args.parts.now.masks c.args.parts.now.vps c.args.words.now) (sym e)
+    ∙ kept c.args.setup c.args.parts.now.levels c.args.parts.now.masks c.args.parts.now.vps c.args.words.now c.args.place c.requires.0 in
     c.row_word.ensures ∙ told _ c.in-Register.is
 
 pub returns-in-Tpr : goal.returns-in-Tpr
 returns-in-Tpr c =
-    let told : (q : Place) → c.args.place ≡ q → kept_at c.args.setup c.args.levels.now c.args.masks.now c.args.vps.now c.args.words.now q ≡ value_at (lent c.args.setup c.args.levels.now c.args.masks.now c.args.vps.now c.args.words.now) c.args.place = λ q e. ap (kept_at c.args.setup c.args.levels.now c.args.masks.now c.args.vps.now c.args.words.now) (sym e)
-    ∙ kept c.args.setup c.args.levels.now c.args.masks.now c.args.vps.now c.args.words.now c.args.place c.requires.0 in
+    let told : (q : Place) → c.args.place ≡ q → kept_at c.args.setup c.args.parts.now.levels c.args.parts.now.masks c.args.parts.now.vps c.args.words.now q ≡ value_at (lent c.args.setup c.args.parts.now.levels c.args.parts.now.masks c.args.parts.now.vps c.args.words.now) c.args.place = λ q e. ap (kept_at c.args.setup c.args.parts.now.levels c.args.parts.now.masks c.args.parts.now.vps c.args.words.now) (sym e)
+    ∙ kept c.args.setup c.args.parts.now.levels c.args.parts.now.masks c.args.parts.now.vps c.args.words.now c.args.place c.requires.0 in
     c.row_word-in-Tpr.ensures ∙ told _ c.in-Tpr.is
 
 pub returns-in-Pending : goal.returns-in-Pending
 returns-in-Pending c =
-    let told : (q : Place) → c.args.place ≡ q → kept_at c.args.setup c.args.levels.now c.args.masks.now c.args.vps.now c.args.words.now q ≡ value_at (lent c.args.setup c.args.levels.now c.args.masks.now c.args.vps.now c.args.words.now) c.args.place = λ q e. ap (kept_at c.args.setup c.args.levels.now c.args.masks.now c.args.vps.now c.args.words.now) (sym e)
-    ∙ kept c.args.setup c.args.levels.now c.args.masks.now c.args.vps.now c.args.words.now c.args.place c.requires.0 in
+    let told : (q : Place) → c.args.place ≡ q → kept_at c.args.setup c.args.parts.now.levels c.args.parts.now.masks c.args.parts.now.vps c.args.words.now q ≡ value_at (lent c.args.setup c.args.parts.now.levels c.args.parts.now.masks c.args.parts.now.vps c.args.words.now) c.args.place = λ q e. ap (kept_at c.args.setup c.args.parts.now.levels c.args.parts.now.masks c.args.parts.now.vps c.args.words.now) (sym e)
+    ∙ kept c.args.setup c.args.parts.now.levels c.args.parts.now.masks c.args.parts.now.vps c.args.words.now c.args.place c.requires.0 in
     c.row_word-in-Pending.ensures ∙ told _ c.in-Pending.is
 
 pub returns-in-Enabled : goal.returns-in-Enabled
 returns-in-Enabled c =
-    let told : (q : Place) → c.args.place ≡ q → kept_at c.args.setup c.args.levels.now c.args.masks.now c.args.vps.now c.args.words.now q ≡ value_at (lent c.args.setup c.args.levels.now c.args.masks.now c.args.vps.now c.args.words.now) c.args.place = λ q e. ap (kept_at c.args.setup c.args.levels.now c.args.masks.now c.args.vps.now c.args.words.now) (sym e)
-    ∙ kept c.args.setup c.args.levels.now c.args.masks.now c.args.vps.now c.args.words.now c.args.place c.requires.0 in
+    let told : (q : Place) → c.args.place ≡ q → kept_at c.args.setup c.args.parts.now.levels c.args.parts.now.masks c.args.parts.now.vps c.args.words.now q ≡ value_at (lent c.args.setup c.args.parts.now.levels c.args.parts.now.masks c.args.parts.now.vps c.args.words.now) c.args.place = λ q e. ap (kept_at c.args.setup c.args.parts.now.levels c.args.parts.now.masks c.args.parts.now.vps c.args.words.now) (sym e)
+    ∙ kept c.args.setup c.args.parts.now.levels c.args.parts.now.masks c.args.parts.now.vps c.args.words.now c.args.place c.requires.0 in
     c.is_enabled.ensures ∙ told _ c.in-Enabled.is
 
 pub returns-in-Secure : goal.returns-in-Secure
 returns-in-Secure c =
-    let told : (q : Place) → c.args.place ≡ q → kept_at c.args.setup c.args.levels.now c.args.masks.now c.args.vps.now c.args.words.now q ≡ value_at (lent c.args.setup c.args.levels.now c.args.masks.now c.args.vps.now c.args.words.now) c.args.place = λ q e. ap (kept_at c.args.setup c.args.levels.now c.args.masks.now c.args.vps.now c.args.words.now) (sym e)
-    ∙ kept c.args.setup c.args.levels.now c.args.masks.now c.args.vps.now c.args.words.now c.args.place c.requires.0 in
+    let told : (q : Place) → c.args.place ≡ q → kept_at c.args.setup c.args.parts.now.levels c.args.parts.now.masks c.args.parts.now.vps c.args.words.now q ≡ value_at (lent c.args.setup c.args.parts.now.levels c.args.parts.now.masks c.args.parts.now.vps c.args.words.now) c.args.place = λ q e. ap (kept_at c.args.setup c.args.parts.now.levels c.args.parts.now.masks c.args.parts.now.vps c.args.words.now) (sym e)
+    ∙ kept c.args.setup c.args.parts.now.levels c.args.parts.now.masks c.args.parts.now.vps c.args.words.now c.args.place c.requires.0 in
     c.row_word-in-Secure.ensures ∙ told _ c.in-Secure.is
 
 pub returns-in-Reason : goal.returns-in-Reason
 returns-in-Reason c =
-    let told : (q : Place) → c.args.place ≡ q → kept_at c.args.setup c.args.levels.now c.args.masks.now c.args.vps.now c.args.words.now q ≡ value_at (lent c.args.setup c.args.levels.now c.args.masks.now c.args.vps.now c.args.words.now) c.args.place = λ q e. ap (kept_at c.args.setup c.args.levels.now c.args.masks.now c.args.vps.now c.args.words.now) (sym e)
-    ∙ kept c.args.setup c.args.levels.now c.args.masks.now c.args.vps.now c.args.words.now c.args.place c.requires.0 in
+    let told : (q : Place) → c.args.place ≡ q → kept_at c.args.setup c.args.parts.now.levels c.args.parts.now.masks c.args.parts.now.vps c.args.words.now q ≡ value_at (lent c.args.setup c.args.parts.now.levels c.args.parts.now.masks c.args.parts.now.vps c.args.words.now) c.args.place = λ q e. ap (kept_at c.args.setup c.args.parts.now.levels c.args.parts.now.masks c.args.parts.now.vps c.args.words.now) (sym e)
+    ∙ kept c.args.setup c.args.parts.now.levels c.args.parts.now.masks c.args.parts.now.vps c.args.words.now c.args.place c.requires.0 in
     c.row_word-in-Reason.ensures ∙ told _ c.in-Reason.is
 
 pub returns-in-From : goal.returns-in-From
 returns-in-From c =
-    let told : (q : Place) → c.args.place ≡ q → kept_at c.args.setup c.args.levels.now c.args.masks.now c.args.vps.now c.args.words.now q ≡ value_at (lent c.args.setup c.args.levels.now c.args.masks.now c.args.vps.now c.args.words.now) c.args.place = λ q e. ap (kept_at c.args.setup c.args.levels.now c.args.masks.now c.args.vps.now c.args.words.now) (sym e)
-    ∙ kept c.args.setup c.args.levels.now c.args.masks.now c.args.vps.now c.args.words.now c.args.place c.requires.0 in
+    let told : (q : Place) → c.args.place ≡ q → kept_at c.args.setup c.args.parts.now.levels c.args.parts.now.masks c.args.parts.now.vps c.args.words.now q ≡ value_at (lent c.args.setup c.args.parts.now.levels c.args.parts.now.masks c.args.parts.now.vps c.args.words.now) c.args.place = λ q e. ap (kept_at c.args.setup c.args.parts.now.levels c.args.parts.now.masks c.args.parts.now.vps c.args.words.now) (sym e)
+    ∙ kept c.args.setup c.args.parts.now.levels c.args.parts.now.masks c.args.parts.now.vps c.args.words.now c.args.place c.requires.0 in
     c.row_word-in-From.ensures ∙ told _ c.in-From.is
 
 pub returns-in-Rax : goal.returns-in-Rax
 returns-in-Rax c =
-    let told : (q : Place) → c.args.place ≡ q → kept_at c.args.setup c.args.levels.now c.args.masks.now c.args.vps.now c.args.words.now q ≡ value_at (lent c.args.setup c.args.levels.now c.args.masks.now c.args.vps.now c.args.words.now) c.args.place = λ q e. ap (kept_at c.args.setup c.args.levels.now c.args.masks.now c.args.vps.now c.args.words.now) (sym e)
-    ∙ kept c.args.setup c.args.levels.now c.args.masks.now c.args.vps.now c.args.words.now c.args.place c.requires.0 in
+    let told : (q : Place) → c.args.place ≡ q → kept_at c.args.setup c.args.parts.now.levels c.args.parts.now.masks c.args.parts.now.vps c.args.words.now q ≡ value_at (lent c.args.setup c.args.parts.now.levels c.args.parts.now.masks c.args.parts.now.vps c.args.words.now) c.args.place = λ q e. ap (kept_at c.args.setup c.args.parts.now.levels c.args.parts.now.masks c.args.parts.now.vps c.args.words.now) (sym e)
+    ∙ kept c.args.setup c.args.parts.now.levels c.args.parts.now.masks c.args.parts.now.vps c.args.words.now c.args.place c.requires.0 in
     c.row_word-in-Rax.ensures ∙ told _ c.in-Rax.is
 
 pub returns-in-Rcx : goal.returns-in-Rcx
 returns-in-Rcx c =
-    let told : (q : Place) → c.args.place ≡ q → kept_at c.args.setup c.args.levels.now c.args.masks.now c.args.vps.now c.args.words.now q ≡ value_at (lent c.args.setup c.args.levels.now c.args.masks.now c.args.vps.now c.args.words.now) c.args.place = λ q e. ap (kept_at c.args.setup c.args.levels.now c.args.masks.now c.args.vps.now c.args.words.now) (sym e)
-    ∙ kept c.args.setup c.args.levels.now c.args.masks.now c.args.vps.now c.args.words.now c.args.place c.requires.0 in
+    let told : (q : Place) → c.args.place ≡ q → kept_at c.args.setup c.args.parts.now.levels c.args.parts.now.masks c.args.parts.now.vps c.args.words.now q ≡ value_at (lent c.args.setup c.args.parts.now.levels c.args.parts.now.masks c.args.parts.now.vps c.args.words.now) c.args.place = λ q e. ap (kept_at c.args.setup c.args.parts.now.levels c.args.parts.now.masks c.args.parts.now.vps c.args.words.now) (sym e)
+    ∙ kept c.args.setup c.args.parts.now.levels c.args.parts.now.masks c.args.parts.now.vps c.args.words.now c.args.place c.requires.0 in
     c.row_word-in-Rcx.ensures ∙ told _ c.in-Rcx.is
 
 pub returns-in-Word : goal.returns-in-Word
 returns-in-Word c =
-    let told : (q : Place) → c.args.place ≡ q → kept_at c.args.setup c.args.levels.now c.args.masks.now c.args.vps.now c.args.words.now q ≡ value_at (lent c.args.setup c.args.levels.now c.args.masks.now c.args.vps.now c.args.words.now) c.args.place = λ q e. ap (kept_at c.args.setup c.args.levels.now c.args.masks.now c.args.vps.now c.args.words.now) (sym e)
-    ∙ kept c.args.setup c.args.levels.now c.args.masks.now c.args.vps.now c.args.words.now c.args.place c.requires.0 in
+    let told : (q : Place) → c.args.place ≡ q → kept_at c.args.setup c.args.parts.now.levels c.args.parts.now.masks c.args.parts.now.vps c.args.words.now q ≡ value_at (lent c.args.setup c.args.parts.now.levels c.args.parts.now.masks c.args.parts.now.vps c.args.words.now) c.args.place = λ q e. ap (kept_at c.args.setup c.args.parts.now.levels c.args.parts.now.masks c.args.parts.now.vps c.args.words.now) (sym e)
+    ∙ kept c.args.setup c.args.parts.now.levels c.args.parts.now.masks c.args.parts.now.vps c.args.words.now c.args.place c.requires.0 in
     c.page_word.ensures ∙ told _ c.in-Word.is
 
 pub returns-in-Mask : goal.returns-in-Mask
 returns-in-Mask c =
-    let told : (q : Place) → c.args.place ≡ q → kept_at c.args.setup c.args.levels.now c.args.masks.now c.args.vps.now c.args.words.now q ≡ value_at (lent c.args.setup c.args.levels.now c.args.masks.now c.args.vps.now c.args.words.now) c.args.place = λ q e. ap (kept_at c.args.setup c.args.levels.now c.args.masks.now c.args.vps.now c.args.words.now) (sym e)
-    ∙ kept c.args.setup c.args.levels.now c.args.masks.now c.args.vps.now c.args.words.now c.args.place c.requires.0 in
+    let told : (q : Place) → c.args.place ≡ q → kept_at c.args.setup c.args.parts.now.levels c.args.parts.now.masks c.args.parts.now.vps c.args.words.now q ≡ value_at (lent c.args.setup c.args.parts.now.levels c.args.parts.now.masks c.args.parts.now.vps c.args.words.now) c.args.place = λ q e. ap (kept_at c.args.setup c.args.parts.now.levels c.args.parts.now.masks c.args.parts.now.vps c.args.words.now) (sym e)
+    ∙ kept c.args.setup c.args.parts.now.levels c.args.parts.now.masks c.args.parts.now.vps c.args.words.now c.args.place c.requires.0 in
     c.mask_at.ensures ∙ told _ c.in-Mask.is
 
 pub returns-in-Intercepts : goal.returns-in-Intercepts
 returns-in-Intercepts c =
-    let told : (q : Place) → c.args.place ≡ q → kept_at c.args.setup c.args.levels.now c.args.masks.now c.args.vps.now c.args.words.now q ≡ value_at (lent c.args.setup c.args.levels.now c.args.masks.now c.args.vps.now c.args.words.now) c.args.place = λ q e. ap (kept_at c.args.setup c.args.levels.now c.args.masks.now c.args.vps.now c.args.words.now) (sym e)
-    ∙ kept c.args.setup c.args.levels.now c.args.masks.now c.args.vps.now c.args.words.now c.args.place c.requires.0 in
+    let told : (q : Place) → c.args.place ≡ q → kept_at c.args.setup c.args.parts.now.levels c.args.parts.now.masks c.args.parts.now.vps c.args.words.now q ≡ value_at (lent c.args.setup c.args.parts.now.levels c.args.parts.now.masks c.args.parts.now.vps c.args.words.now) c.args.place = λ q e. ap (kept_at c.args.setup c.args.parts.now.levels c.args.parts.now.masks c.args.parts.now.vps c.args.words.now) (sym e)
+    ∙ kept c.args.setup c.args.parts.now.levels c.args.parts.now.masks c.args.parts.now.vps c.args.words.now c.args.place c.requires.0 in
     c.row_word-in-Intercepts.ensures ∙ told _ c.in-Intercepts.is
 
 pub returns-in-Cr0Mask : goal.returns-in-Cr0Mask
 returns-in-Cr0Mask c =
-    let told : (q : Place) → c.args.place ≡ q → kept_at c.args.setup c.args.levels.now c.args.masks.now c.args.vps.now c.args.words.now q ≡ value_at (lent c.args.setup c.args.levels.now c.args.masks.now c.args.vps.now c.args.words.now) c.args.place = λ q e. ap (kept_at c.args.setup c.args.levels.now c.args.masks.now c.args.vps.now c.args.words.now) (sym e)
-    ∙ kept c.args.setup c.args.levels.now c.args.masks.now c.args.vps.now c.args.words.now c.args.place c.requires.0 in
+    let told : (q : Place) → c.args.place ≡ q → kept_at c.args.setup c.args.parts.now.levels c.args.parts.now.masks c.args.parts.now.vps c.args.words.now q ≡ value_at (lent c.args.setup c.args.parts.now.levels c.args.parts.now.masks c.args.parts.now.vps c.args.words.now) c.args.place = λ q e. ap (kept_at c.args.setup c.args.parts.now.levels c.args.parts.now.masks c.args.parts.now.vps c.args.words.now) (sym e)
+    ∙ kept c.args.setup c.args.parts.now.levels c.args.parts.now.masks c.args.parts.now.vps c.args.words.now c.args.place c.requires.0 in
     c.row_word-in-Cr0Mask.ensures ∙ told _ c.in-Cr0Mask.is
 
 pub returns-in-Cr4Mask : goal.returns-in-Cr4Mask
 returns-in-Cr4Mask c =
-    let told : (q : Place) → c.args.place ≡ q → kept_at c.args.setup c.args.levels.now c.args.masks.now c.args.vps.now c.args.words.now q ≡ value_at (lent c.args.setup c.args.levels.now c.args.masks.now c.args.vps.now c.args.words.now) c.args.place = λ q e. ap (kept_at c.args.setup c.args.levels.now c.args.masks.now c.args.vps.now c.args.words.now) (sym e)
-    ∙ kept c.args.setup c.args.levels.now c.args.masks.now c.args.vps.now c.args.words.now c.args.place c.requires.0 in
+    let told : (q : Place) → c.args.place ≡ q → kept_at c.args.setup c.args.parts.now.levels c.args.parts.now.masks c.args.parts.now.vps c.args.words.now q ≡ value_at (lent c.args.setup c.args.parts.now.levels c.args.parts.now.masks c.args.parts.now.vps c.args.words.now) c.args.place = λ q e. ap (kept_at c.args.setup c.args.parts.now.levels c.args.parts.now.masks c.args.parts.now.vps c.args.words.now) (sym e)
+    ∙ kept c.args.setup c.args.parts.now.levels c.args.parts.now.masks c.args.parts.now.vps c.args.words.now c.args.place c.requires.0 in
     c.row_word-in-Cr4Mask.ensures ∙ told _ c.in-Cr4Mask.is

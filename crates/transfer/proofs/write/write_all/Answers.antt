@@ -18,7 +18,7 @@ use Rattle.transfer.proofs.write.write_all.Goals as goal
 pub write_first-end-requires : goal.write_first-end-requires
 unfolding machine_of
 write_first-end-requires c =
-    let S : State = lent c.args.setup c.args.levels.now c.args.masks.now c.args.vps.now c.args.words.now in
+    let S : State = lent c.args.setup c.args.parts.now.levels c.args.parts.now.masks c.args.parts.now.vps c.args.words.now in
     let both : first_record_text c.args.setup ++ places_text (S) ≡ records_text (S) = whole_is (S) in
     let room : 0 + length (first_record_text c.args.setup ++ places_text (S)) ≤ length c.args.out.now = omega (arith, ap length (both), short-text (S) c.requires.words_value, c.requires.longest_text_in_bounds) in
     omega (arith, first-room c.args.out.now 0 (first_record_text c.args.setup) (places_text (S)) (room))
@@ -26,7 +26,7 @@ write_first-end-requires c =
 pub write_places-requires : goal.write_places-requires
 unfolding machine_of
 write_places-requires c =
-    let S : State = lent c.args.setup c.args.levels.now c.args.masks.now c.args.vps.now c.args.words.now in
+    let S : State = lent c.args.setup c.args.parts.now.levels c.args.parts.now.masks c.args.parts.now.vps c.args.words.now in
     let both : first_record_text c.args.setup ++ places_text (S) ≡ records_text (S) = whole_is (S) in
     let room : 0 + length (first_record_text c.args.setup ++ places_text (S)) ≤ length c.args.out.now = omega (arith, ap length (both), short-text (S) c.requires.words_value, c.requires.longest_text_in_bounds) in
     let wrote : Written c.args.out.now 0 (first_record_text c.args.setup) c.write_first-end.result c.write_first-end.new.out = record { value = omega (arith, c.write_first-end.ensures.value); out_after = c.write_first-end.ensures.out_after } in
@@ -35,7 +35,7 @@ write_places-requires c =
 pub returns : goal.returns
 unfolding machine_of
 returns c =
-    let S : State = lent c.args.setup c.args.levels.now c.args.masks.now c.args.vps.now c.args.words.now in
+    let S : State = lent c.args.setup c.args.parts.now.levels c.args.parts.now.masks c.args.parts.now.vps c.args.words.now in
     let both : first_record_text c.args.setup ++ places_text (S) ≡ records_text (S) = whole_is (S) in
     let wrote : Written c.args.out.now 0 (first_record_text c.args.setup) c.write_first-end.result c.write_first-end.new.out = record { value = omega (arith, c.write_first-end.ensures.value); out_after = c.write_first-end.ensures.out_after } in
     let all = written_next c.args.out.now 0 (first_record_text c.args.setup) (places_text (S)) (wrote) c.write_places.ensures in

@@ -17,7 +17,7 @@ use Rattle.transfer.proofs.write.write_places.Goals as goal
 pub loop-due-init : goal.loop-due-init
 unfolding machine_of
 loop-due-init c =
-    let S : State = lent c.args.setup c.args.levels.now c.args.masks.now c.args.vps.now c.args.words.now in
+    let S : State = lent c.args.setup c.args.parts.now.levels c.args.parts.now.masks c.args.parts.now.vps c.args.words.now in
     let few : Small c.args.setup = small (S) c.requires.words_value in
     rw c.first-due.ensures (left-start c.args.setup (value_at (S)) c.args.out.now c.args.start (few))
 
@@ -28,13 +28,13 @@ shape_of-out-in_default c =
 pub returns-in_default : goal.returns-in_default
 unfolding places_text machine_of
 returns-in_default c =
-    let S : State = lent c.args.setup c.args.levels.now c.args.masks.now c.args.vps.now c.args.words.now in
+    let S : State = lent c.args.setup c.args.parts.now.levels c.args.parts.now.masks c.args.parts.now.vps c.args.words.now in
     left-done c.args.setup (value_at (S)) c.args.out.now c.args.start c.loop-due.out c.loop-due.at (rw c.in_default.is at c.loop-due.invariant)
 
 pub quantity-value-requires : goal.quantity-value-requires
 unfolding machine_of
 quantity-value-requires c =
-    let S : State = lent c.args.setup c.args.levels.now c.args.masks.now c.args.vps.now c.args.words.now in
+    let S : State = lent c.args.setup c.args.parts.now.levels c.args.parts.now.masks c.args.parts.now.vps c.args.words.now in
     let count : length c.args.words.now ≡ c.args.setup.pages = words-length (S) c.requires.words_value in
     let due-of : Due c.args.setup (value_at (S)) c.args.out.now c.args.start c.loop-due.out c.loop-due.at c.in-Some.place = left_at c.args.setup (value_at (S)) c.args.out.now c.args.start c.loop-due.out c.loop-due.at c.in-Some.place (rw c.in-Some.is at c.loop-due.invariant) in
     ((due-of).holds, count)
@@ -42,19 +42,19 @@ quantity-value-requires c =
 pub write_record-at-requires : goal.write_record-at-requires
 unfolding places_text machine_of
 write_record-at-requires c =
-    let S : State = lent c.args.setup c.args.levels.now c.args.masks.now c.args.vps.now c.args.words.now in
+    let S : State = lent c.args.setup c.args.parts.now.levels c.args.parts.now.masks c.args.parts.now.vps c.args.words.now in
     let due-of : Due c.args.setup (value_at (S)) c.args.out.now c.args.start c.loop-due.out c.loop-due.at c.in-Some.place = left_at c.args.setup (value_at (S)) c.args.out.now c.args.start c.loop-due.out c.loop-due.at c.in-Some.place (rw c.in-Some.is at c.loop-due.invariant) in
     rw c.quantity-value.ensures ((due-of).room c.requires.words_in_bounds)
 
 pub loop-due-smaller : goal.loop-due-smaller
 loop-due-smaller c =
-    let S : State = lent c.args.setup c.args.levels.now c.args.masks.now c.args.vps.now c.args.words.now in
+    let S : State = lent c.args.setup c.args.parts.now.levels c.args.parts.now.masks c.args.parts.now.vps c.args.words.now in
     let due-of : Due c.args.setup (value_at (S)) c.args.out.now c.args.start c.loop-due.out c.loop-due.at c.in-Some.place = left_at c.args.setup (value_at (S)) c.args.out.now c.args.start c.loop-due.out c.loop-due.at c.in-Some.place (rw c.in-Some.is at c.loop-due.invariant) in
     let d = due-of in
     omega (arith, ap (due_rank c.args.setup) c.next-due.ensures, ap (due_rank c.args.setup) c.in-Some.is, d.below, d.rises)
 
 pub loop-due-preserved : goal.loop-due-preserved
 loop-due-preserved c =
-    let S : State = lent c.args.setup c.args.levels.now c.args.masks.now c.args.vps.now c.args.words.now in
+    let S : State = lent c.args.setup c.args.parts.now.levels c.args.parts.now.masks c.args.parts.now.vps c.args.words.now in
     let due-of : Due c.args.setup (value_at (S)) c.args.out.now c.args.start c.loop-due.out c.loop-due.at c.in-Some.place = left_at c.args.setup (value_at (S)) c.args.out.now c.args.start c.loop-due.out c.loop-due.at c.in-Some.place (rw c.in-Some.is at c.loop-due.invariant) in
     rw c.next-due.ensures ((due-of).goes c.write_record-at.result c.write_record-at.new.out (rw c.quantity-value.ensures at c.write_record-at.ensures))

@@ -10,7 +10,7 @@ use Rattle.transfer.proofs.write.write_places.Given as goal
 
 abbrev pub invariant-loop-due : goal.invariant-loop-due
 invariant-loop-due l =
-    Left l.setup (value_at (lent l.setup l.levels l.masks l.vps l.words)) l.initial.out l.start l.out l.at l.due
+    Left l.setup (value_at (lent l.setup l.parts.levels l.parts.masks l.parts.vps l.words)) l.initial.out l.start l.out l.at l.due
 
 abbrev pub decreases-loop-due : goal.decreases-loop-due
 decreases-loop-due l = end_rank l.setup - due_rank l.setup l.due

@@ -13,12 +13,12 @@ use Rattle.transfer.proofs.write.write_within.Goals as goal
 
 pub returns-then-out-size : goal.returns-then-out-size
 returns-then-out-size c =
-    let S : State = lent c.args.setup c.args.levels.now c.args.masks.now c.args.vps.now c.args.words.now in
+    let S : State = lent c.args.setup c.args.parts.now.levels c.args.parts.now.masks c.args.parts.now.vps c.args.words.now in
     sent-short (S) c.args.out.now c.requires (omega (arith, c.if-out-size.true, c.write_all-size.ensures.value))
 
 pub slice_bounds-text-end : goal.slice_bounds-text-end
 slice_bounds-text-end c =
-    let S : State = lent c.args.setup c.args.levels.now c.args.masks.now c.args.vps.now c.args.words.now in
+    let S : State = lent c.args.setup c.args.parts.now.levels c.args.parts.now.masks c.args.parts.now.vps c.args.words.now in
     let inside : c.write_all-size.result ≤ length c.write_all-size.new.out = omega (
       arith,
       c.write_all-size.ensures.value,
@@ -31,7 +31,7 @@ slice_bounds-text-end c =
 
 pub slice_bounds-put-end : goal.slice_bounds-put-end
 slice_bounds-put-end c =
-    let S : State = lent c.args.setup c.args.levels.now c.args.masks.now c.args.vps.now c.args.words.now in
+    let S : State = lent c.args.setup c.args.parts.now.levels c.args.parts.now.masks c.args.parts.now.vps c.args.words.now in
     let inside : c.write_all-size.result ≤ length c.write_all-size.new.out = omega (
       arith,
       c.write_all-size.ensures.value,
@@ -47,7 +47,7 @@ slice_bounds-put-end c =
 
 pub put-requires : goal.put-requires
 put-requires c =
-    let S : State = lent c.args.setup c.args.levels.now c.args.masks.now c.args.vps.now c.args.words.now in
+    let S : State = lent c.args.setup c.args.parts.now.levels c.args.parts.now.masks c.args.parts.now.vps c.args.words.now in
     let inside : c.write_all-size.result ≤ length c.write_all-size.new.out = omega (
       arith,
       c.write_all-size.ensures.value,
@@ -63,7 +63,7 @@ put-requires c =
 
 pub returns : goal.returns
 returns c =
-    let S : State = lent c.args.setup c.args.levels.now c.args.masks.now c.args.vps.now c.args.words.now in
+    let S : State = lent c.args.setup c.args.parts.now.levels c.args.parts.now.masks c.args.parts.now.vps c.args.words.now in
     let inside : c.write_all-size.result ≤ length c.write_all-size.new.out = omega (
       arith,
       c.write_all-size.ensures.value,
