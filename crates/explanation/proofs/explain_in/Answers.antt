@@ -4,11 +4,11 @@ use native.Mathlib.Omega.{arith}
 use Rattle.explanation.proofs.LentRecord.{index-low, acts, hosted, there, missing}
 use Rattle.explanation.proofs.explain_in.Goals as goal
 
-pub offset_bounds-vps-i : goal.offset_bounds-vps-i
-offset_bounds-vps-i c = let low : c.args.vp.0 < 4 = index-low _ _ c.if-vp-setup.true in omega arith
+pub offset_bounds-parts-i : goal.offset_bounds-parts-i
+offset_bounds-parts-i c = let low : c.args.vp.0 < 4 = index-low _ _ c.if-vp-setup.true in omega arith
 
-pub bounds-vps-i : goal.bounds-vps-i
-bounds-vps-i c = index-low _ _ c.if-vp-setup.true
+pub bounds-parts-i : goal.bounds-parts-i
+bounds-parts-i c = index-low _ _ c.if-vp-setup.true
 
 pub returns-then-vp-setup : goal.returns-then-vp-setup
 returns-then-vp-setup c words =

@@ -91,7 +91,7 @@ loop-setup-preserved c =
     let number = c.loop-setup.line.number in
     let next = c.next_number-line.ensures in
     let back = words_back c.loop-setup.words w.new.words words.result (omega (arith, words.ensures.number, c.loop-setup.invariant.0)) w.auto.words in
-    let s = lent a.start.setup c.loop-setup.levels c.loop-setup.masks c.loop-setup.vps (take words.result c.loop-setup.words) in
+    let s = lent a.start.setup c.loop-setup.parts.levels c.loop-setup.parts.masks c.loop-setup.parts.vps (take words.result c.loop-setup.words) in
     let e = ended_by number s _ (take (c.line_end-end.result - c.loop-setup.i) (drop c.loop-setup.i a.chunk.now)) _ w.ensures.next
     (ap (shown_text number) w.ensures.shown) in (
       length_front c.loop-setup.words w.new.words words.result w.auto.words ∙ c.loop-setup.invariant.0,
