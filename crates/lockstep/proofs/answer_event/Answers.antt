@@ -15,14 +15,14 @@ returns c =
     let vp = c.processor_of-vp in
     let low : vp.result.0 % 4 < 4 = omega arith in
     event-told c.args.machine.now c.requires c.args.event o.result c.setup_in-setup.result
-    c.levels_in-levels.result c.masks_in-masks.result c.records_in-vps.result c.words_end-end.result c.setup_in-setup.ensures
-    c.levels_in-levels.ensures c.masks_in-masks.ensures c.records_in-vps.ensures c.words_end-end.ensures o.new.levels
-    o.new.masks o.new.vps o.new.words c.store_parts.ensures.sizes o.auto.words
+    c.parts_in-parts.result.levels c.parts_in-parts.result.masks c.parts_in-parts.result.vps c.words_end-end.result c.setup_in-setup.ensures
+    c.parts_in-parts.ensures.levels c.parts_in-parts.ensures.masks c.parts_in-parts.ensures.records c.words_end-end.ensures o.new.parts.levels
+    o.new.parts.masks o.new.parts.vps o.new.words c.store_parts.ensures.sizes o.auto.words
     o.ensures _ c.store_parts.ensures.stored vp.result vp.ensures c.level_on-active.result
     (c.level_on-active.ensures
     ∙ rw (
       ap level c.active_of.ensures,
-      ← vps-at o.new.vps (vp.result.0 % 4) low,
+      ← vps-at o.new.parts.vps (vp.result.0 % 4) low,
       c.setup_in-setup.ensures,
     ))
     _ c.told.ensures

@@ -22,7 +22,7 @@ store_words-requires c =
 
 pub returns : goal.returns
 returns c =
-    machine-opened c.args.first c.requires.1 c.args.machine.now c.requires.0 c.fresh_levels-levels.result
-    c.fresh_masks-masks.result c.fresh_record-vp.result c.store_parts.ensures.sizes c.fresh_levels-levels.ensures
-    c.fresh_masks-masks.ensures c.fresh_record-vp.ensures _
+    machine-opened c.args.first c.requires.1 c.args.machine.now c.requires.0 c.fresh_levels.result
+    c.fresh_masks.result c.fresh_record.result c.store_parts.ensures.sizes c.fresh_levels.ensures
+    c.fresh_masks.ensures c.fresh_record.ensures _
     (rw (c.store_words.ensures, c.store_setup.ensures) at c.store_parts.ensures.stored)
