@@ -57,7 +57,8 @@ fn receiver_of(shape: Shape, vp: &Record, denying: LevelSet) -> Receiver
     ensures { result
         ≡ receiver_by (lowest_in denying.0 (bits 4 (λ l. enabled_at shape (vp_of vp.now) l))) }
 {
-    match lowest(denying, enabled_set(shape, vp)) {
+    let enabled = enabled_set(shape, vp);
+    match lowest(denying, enabled) {
         Some(level) => Receiver::By(level),
         None => Receiver::Nobody,
     }

@@ -7,9 +7,9 @@ use Rattle.explanation.proofs.receiver_of.Goals as goal
 
 pub returns-in-Some : goal.returns-in-Some
 returns-in-Some c =
-    let found = number-found _ (sym (c.lowest.ensures ∙ ap (λ e. level_found (lowest_in c.args.denying.0 e)) c.enabled_set.ensures) ∙ c.in-Some.is) in
+    let found = number-found _ (sym (c.lowest.ensures ∙ ap (λ e. level_found (lowest_in c.args.denying.0 e)) c.enabled_set-enabled.ensures) ∙ c.in-Some.is) in
     rw (found.0, found.1)
 
 pub returns-in-None : goal.returns-in-None
 returns-in-None c =
-    rw (number-past _ (sym (c.lowest.ensures ∙ ap (λ e. level_found (lowest_in c.args.denying.0 e)) c.enabled_set.ensures) ∙ c.in-None.is))
+    rw (number-past _ (sym (c.lowest.ensures ∙ ap (λ e. level_found (lowest_in c.args.denying.0 e)) c.enabled_set-enabled.ensures) ∙ c.in-None.is))
