@@ -39,7 +39,7 @@ pub fn enter(shape: Shape, vp: &mut Record, level: Level, reason: u64)
 fn is_above(shape: Shape, vp: &Record, active: Level, level: Level) -> bool
     ensures { result ≡ (nat_lt active.0 level.0 && enabled_at shape (vp_of vp.now) level.0) }
 {
-    (active.0 < level.0) & record::enabled_at(shape, vp, level)
+    (active < level) & record::enabled_at(shape, vp, level)
 }
 
 // The next enabled level above the active one.

@@ -37,7 +37,7 @@ pub enum Mode {
     User,
 }
 
-// The mode of a number: 1 is user mode, any other kernel mode.
+// The mode of a number: 1 is user mode, any other kernel mode. It is no `From`, which would lose nothing.
 pub fn mode_of(number: u64) -> Mode
     ensures { result ≡ mode_of number }
 {

@@ -103,6 +103,7 @@ fn watcher(shape: Shape, vp: &Record, target: Level, access: RegisterAccess) -> 
 }
 
 // The level that is told of a read of a register.
+#[inline]
 pub fn read_watcher(shape: Shape, vp: &Record, target: Level, register: u64) -> Option<Level>
     ensures { result ≡ level_found (watcher shape (vp_of vp.now) target.0 (asks_read register)) }
 {
@@ -113,6 +114,7 @@ pub fn read_watcher(shape: Shape, vp: &Record, target: Level, register: u64) -> 
 }
 
 // The level that is told of a write of a value to a register.
+#[inline]
 pub fn write_watcher(
     shape: Shape,
     vp: &Record,
