@@ -1,5 +1,8 @@
 -- Laws of places: where a byte next stands, where a field ends, and which fields come after it.
 -- Assumes nothing.
+use Rattle.std.specs.Prelude.{Some}
+use Rattle.std.specs.Slice.{IsItemAt}
+use denote.Ref.{Bor}
 use Prim.Native.Nat.{ℕ, suc, ◌+◌, ◌-◌, ◌≤◌, ◌<◌}
 use mathlib.Core.Bool.{Bool, true, false, cond}
 use mathlib.Core.List.{List, [], ◌∷◌}
@@ -14,6 +17,10 @@ use lib.Seq.{drop-cons, drop-drop}
 use Rattle.script.specs.LineForms.{fields, in_front, tab}
 use Rattle.script.specs.NumberRows.{after_tab, field_end, fields_after, until_tab}
 use Rattle.script.specs.Search.{byte_at, until_byte}
+
+-- A byte that was read at a place of a line.
+pub item-read : (line : List ℕ) (i : ℕ) (x : Bor ℕ) → IsItemAt line i (Some x) → (i < length line) × (x.now ≡ get_or line i 0)
+item-read line i x h = (h.3.0, h.4 (omega arith) 0)
 
 -- Where a byte next stands, from a place on: at this place, past another byte, and at the end.
 module _ (byte : ℕ) (bytes : List ℕ) (i : ℕ) where
