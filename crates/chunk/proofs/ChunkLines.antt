@@ -1,14 +1,17 @@
 -- Laws of the lines of a chunk: where one ends, and the beginning of one that goes on in the next chunk. Assumes nothing.
 use mathlib.Core.Bool.{Bool, true, false, cond}
-use mathlib.Core.List.{List, [], ◌∷◌, ◌++◌, append_assoc, append-nil}
+use mathlib.Core.List.{List, [], ◌∷◌, ◌++◌}
 use mathlib.Core.Path.{◌≡◌, refl, sym, ap, ◌∙◌}
 use Prim.Native.Nat.{ℕ, suc, ◌+◌, ◌-◌, ◌≤◌, ◌<◌, min, zero}
 use borrow.Author.Tests.{eqb-true}
-use native.Mathlib.Numerals.{add-one}
 use native.Mathlib.Omega.{arith}
 use lib.Dec.{eqb}
-use lib.ListN.{drop, get_or, length, length-drop, length-set, length-take, set, take, take-append-drop}
-use lib.Seq.{drop-drop, take_all, take_at, take-suc, take-suc-set}
+use lib.ListN.{drop, length, length-drop, length-take, take}
+use lib.Seq.{drop-drop, length-take-le}
+use borrow.Rule.Slice.PartMut.{put_mid}
+use Rattle.std.proofs.lemmas.List.{take_min}
+use Rattle.std.proofs.lemmas.Slice.{take-put_mid}
+use Rattle.std.proofs.Math.Seq.{take-append-add}
 use Rattle.script.proofs.FieldPlaces.{end-within as within}
 use Rattle.script.specs.ListingLine.{line_feed}
 use Rattle.script.specs.Search.{until_byte}
@@ -75,42 +78,20 @@ lines-joined (byte ∷ bytes) = go (eqb byte line_feed) refl (lines_in bytes).co
     go false e [] rest h = rw h
     go false e (line ∷ more) rest h = rw h
 
--- What the loop that appends bytes to a line keeps.
-pub record Appending (line₀ : List ℕ) (length₀ : ℕ) (more line : List ℕ) (at i : ℕ) : Type 0 where
-  pub bytes : take at line ≡ held line₀ length₀ ++ take i more
-  pub place : (at ≤ 257) × (i ≤ length more)
-  pub size : length line ≡ 257
-
-pub append-start : (line : List ℕ) (length₀ at : ℕ) (more : List ℕ) → length line ≡ 257 → at ≡ min length₀ 257 → Appending line length₀ more line at 0
-append-start line length₀ at more h e = record { bytes = rw e (sym (append-nil (held line length₀))); place = omega arith; size = h }
-
-module _ {line₀ : List ℕ} {length₀ : ℕ} {more line : List ℕ} {at i : ℕ} (w : Appending line₀ length₀ more line at i) where
-  -- A byte is put after the others.
-  pub append-byte : i < length more → at < 257 → Appending line₀ length₀ more (set line at (get_or more i 0)) (at + 1) (i + 1)
-  append-byte h k = record {
-    bytes =
-        rw (add-one at, add-one i, take-suc-set line at (get_or more i 0) (omega (arith, w.size)), take-suc more i 0 h, w.bytes)
-        (append_assoc (held line₀ length₀) (take i more) (get_or more i 0 ∷ []));
-    place = omega arith;
-    size = length-set line at (get_or more i 0) ∙ w.size;
-  }
-
-  held-now : held line at ≡ take at line
-  held-now = let e : min at 257 ≡ at = omega arith in rw e
-
-  -- All bytes were put there.
-  pub append-all : length more ≤ i → held line at ≡ take 257 (held line₀ length₀ ++ more)
-  append-all h =
-      let whole : take at line ≡ held line₀ length₀ ++ more = w.bytes ∙ ap (λ (l : List ℕ). held line₀ length₀ ++ l) (take_all i more h) in
-      held-now ∙ rw (← whole) (sym (take_all 257 (take at line) (omega (arith, length-take at line, w.size))))
-
-  -- The line is full.
-  pub append-full : 257 ≤ at → held line at ≡ take 257 (held line₀ length₀ ++ more)
-  append-full h =
-      let size : length (held line₀ length₀ ++ take i more) ≡ 257 = ap length (sym w.bytes) ∙ length-take at line ∙ omega (arith, w.size) in
-      let parts : held line₀ length₀ ++ more ≡ (held line₀ length₀ ++ take i more) ++ drop i more =
-      sym (append_assoc (held line₀ length₀) (take i more) (drop i more) ∙ rw (take-append-drop i more)) in
-      held-now ∙ w.bytes ∙ sym (ap (take 257) parts ∙ take_at (held line₀ length₀ ++ take i more) (drop i more) 257 size)
+-- Bytes were copied after those that are held, as many as there is room for.
+pub appended : (line more part : List ℕ) (length₀ at count k : ℕ) → length line ≡ 257 → at ≡ min length₀ 257 → count ≡ min (length more) (257 - at)
+    → part ≡ take count more → held (put_mid at k line part) (at + count) ≡ take 257 (held line length₀ ++ more)
+appended line more part length₀ at count k size place room copied =
+    let whole : min (at + count) 257 ≡ at + count = omega arith in
+    let held_part : length part ≡ count = ap length copied ∙ length-take-le count more (omega arith) in
+    let turned : count ≡ min (257 - at) (length more) = omega arith in
+    let fits : part ≡ take (257 - at) more = copied ∙ ap (λ n. take n more) (turned) ∙ take_min (257 - at) more in
+    let front : length (take at line) + (257 - at) ≡ 257 = omega (arith, length-take at line) in
+    rw whole (take-put_mid at k line part (at + count) (omega arith) (omega arith))
+    ∙ ap (λ (l : List ℕ). take at line ++ l) fits
+    ∙ sym (take-append-add (take at line) more (257 - at))
+    ∙ ap (λ n. take n (take at line ++ more)) front
+    ∙ ap (λ n. take 257 (take n line ++ more)) place
 
 -- The bytes that are held, as the beginning of the buffer.
 taken-again : (k : ℕ) (bytes : List ℕ) → take (length (take k bytes)) bytes ≡ take k bytes

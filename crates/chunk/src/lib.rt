@@ -1,10 +1,11 @@
 // Lines in a chunk: where one ends, and the beginning of one that goes on in the next chunk.
 #![tactic(auto)]
 
-ghost use Rattle.std.specs.Prelude.{◌++◌, ◌≡◌, min};
-ghost use lib.ListN.{take};
+ghost use Rattle.std.specs.Prelude.{◌++◌, ◌≡◌, List, [], ℕ, length, min, take};
+ghost use lib.ListN;
 ghost use Rattle.script.specs.First.{line_first};
 ghost use Rattle.chunk.specs.Chunk.{held, kept_bytes, line_end};
+ghost use Rattle.chunk.specs.HeldBytes.{held_bytes};
 
 use model::answer::Refusal;
 use model::machine::FirstLine;
@@ -17,7 +18,7 @@ pub const KEPT_BYTES: usize = script::LONGEST_LINE + 1;
 pub fn at_most(number: usize, most: usize) -> usize
     ensures { result ≡ min number most }
 {
-    if number < most { number } else { most }
+    number.min(most)
 }
 
 // Where the line that starts at `start` ends: at the next line feed, or at the chunk's end.
@@ -33,33 +34,69 @@ pub fn append(line: &mut [u8; KEPT_BYTES], length: usize, more: &[u8]) -> usize
     ensures { held line.new result
         ≡ take kept_bytes (held line.old length ++ more.now) }
 {
-    let buffer: &mut [u8] = line;
-    let mut at = at_most(length, KEPT_BYTES);
-    let mut i: usize = 0;
-    while i < more.len() {
-        if KEPT_BYTES <= at {
-            return at;
-        }
-        buffer[at] = more[i];
-        at += 1;
-        i += 1;
-    }
-    at
+    let at = length.min(KEPT_BYTES);
+    let count = more.len().min(KEPT_BYTES - at);
+    line[at..at + count].copy_from_slice(&more[..count]);
+    at + count
 }
 
 // How many bytes of a line are in the buffer.
 pub fn held_length(line: &[u8; KEPT_BYTES], length: usize) -> usize
-    ensures { result ≡ lib.ListN.length (held line.now length) }
+    ensures { result ≡ ListN.length (held line.now length) }
 {
-    let buffer: &[u8] = line;
-    at_most(length, buffer.len())
+    length.min(line.len())
 }
 
 // What the first line says.
 pub fn parse_first(line: &[u8; KEPT_BYTES], length: usize) -> Result<FirstLine, Refusal>
     ensures { result ≡ line_first (held line.now length) }
 {
-    let buffer: &[u8] = line;
-    let end = at_most(length, KEPT_BYTES);
-    script::parse_first(&buffer[..end])
+    script::parse_first(&line[..length.min(KEPT_BYTES)])
+}
+
+// The beginning of a line that goes on in the next chunk: the first `length` bytes of a buffer.
+#[derive(Clone, Copy)]
+pub struct HeldLine {
+    pub buffer: [u8; KEPT_BYTES],
+    pub length: usize,
+}
+
+impl HeldLine {
+    // No byte of a line.
+    pub fn new() -> HeldLine
+        ensures { held_bytes result ≡ [] }
+    {
+        HeldLine {
+            buffer: [0; KEPT_BYTES],
+            length: 0,
+        }
+    }
+
+    // The bytes that are held.
+    pub fn bytes(&self) -> &[u8]
+        ensures { result.now ≡ held_bytes self.now }
+    {
+        &self.buffer[..self.len()]
+    }
+
+    // How many they are.
+    pub fn len(&self) -> usize
+        ensures { result ≡ length (held_bytes self.now) }
+    {
+        held_length(&self.buffer, self.length)
+    }
+
+    // Holds more bytes, as far as there is room.
+    pub fn append(&mut self, more: &[u8])
+        ensures { held_bytes self.new ≡ take kept_bytes (held_bytes self.old ++ more.now) }
+    {
+        self.length = append(&mut self.buffer, self.length, more);
+    }
+
+    // What the bytes say as a first line.
+    pub fn parse_first(&self) -> Result<FirstLine, Refusal>
+        ensures { result ≡ line_first (held_bytes self.now) }
+    {
+        script::parse_first(self.bytes())
+    }
 }

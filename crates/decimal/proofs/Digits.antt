@@ -1,6 +1,7 @@
 -- Laws of the digits of a number: what stands before its last digit, how many there are, and that each is a digit.
 -- Assumes nothing.
-use Prim.Native.Nat.{ℕ, zero, suc, ◌+◌, ◌/◌, ◌%◌, ◌≤◌, ◌<◌, ◌^◌}
+use Rattle.std.specs.Prelude.{None, Option, Some, IfNone, IfSome, unwrap_or}
+use Prim.Native.Nat.{ℕ, zero, suc, ◌+◌, ◌*◌, ◌/◌, ◌%◌, ◌≤◌, ◌<◌, ◌^◌}
 use mathlib.Core.Path.{◌≡◌, refl, ap, ◌∙◌}
 use mathlib.Core.Bool.{Bool, true, false, cond}
 use mathlib.Core.List.{List, [], ◌∷◌}
@@ -94,6 +95,12 @@ some-digit n rest = omega (arith, at_least 19 0 n rest (omega arith) (λ l. omeg
 pub text-length : (n : ℕ) → (1 ≤ length (decimal n)) × (length (decimal n) ≤ 20)
 unfolding digits_before
 text-length n = (some-digit n [], at_most 19 19 n [] (λ l. omega arith))
+
+-- The text has one byte more than the power of 10 that the number reaches, and one where it reaches none.
+pub digits-by-log : (n : ℕ) (log : Option ℕ) → IfNone log (n ≡ 0) → IfSome log (λ k. 10 ^ k ≤ n) → IfSome log (λ k. n < 10 * 10 ^ k) → IfSome log (λ k. k < 20)
+    → unwrap_or log 0 + 1 ≡ length (decimal n)
+digits-by-log n None h reached below bound = omega (arith, text-length n, few-digits 1 n (omega arith) (omega arith))
+digits-by-log n (Some k) h reached below bound = omega (arith, few-digits (suc k) n (omega arith) (omega (arith, pow-suc 10 k)), many-digits k n (omega arith) reached)
 
 -- Digits in front of digits.
 digits_in_lem : (spare n : ℕ) (rest : List ℕ) → OnlyDigits rest → OnlyDigits (digits_in spare n rest)

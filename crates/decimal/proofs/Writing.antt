@@ -49,10 +49,41 @@ module _ {buffer : List ℕ} {at value : ℕ} {out : List ℕ} {i rest : ℕ} (w
     fits = omega arith;
   }
 
+  -- How many were left, by the place where it is stored.
+  one-left : rest < 10 → i ≡ at + 1
+  unfolding digits_before
+  one-left h = omega (arith, ap length (sym (one-digit 19 rest w.text h) ∙ w.whole))
+
+  more-left : 9 < rest → at + 1 < i
+  more-left more =
+      omega (arith, some-digit (rest / 10) (last_byte rest ∷ w.text), ap length (sym (last-digit rest w.text more w.fits) ∙ w.whole))
+
   -- It is stored, and was the only one: the text stands where it is to start.
   pub text-put : rest < 10 → set out (i - 1) (last_byte rest) ≡ sets buffer at (decimal value)
   unfolding digits_before
   text-put h =
       let whole : last_byte rest ∷ w.text ≡ decimal value = sym (one-digit 19 rest w.text h) ∙ w.whole in
-      let start : i - 1 ≡ at = omega (arith, ap length whole) in
+      let start : i - 1 ≡ at = omega (arith, one-left h) in
       cc stored-digit
+
+-- What the loop keeps: there are digits left for the places from `at` to i, or the text stands where it is to start.
+pub record Stored (buffer : List ℕ) (at value : ℕ) (out : List ℕ) (i rest : ℕ) : Type 0 where
+  pub left : at < i → Writing buffer at value out i rest
+  pub whole : i ≤ at → out ≡ sets buffer at (decimal value)
+
+-- Before the first digit.
+pub none-stored : (buffer : List ℕ) (at value i : ℕ) → i ≡ at + length (decimal value) → value < 2 ^ 64 → Stored buffer at value buffer i value
+none-stored buffer at value i e fits = record {
+  left = λ h. record { text = []; stored = refl; place = omega arith; whole = refl; fits = fits };
+  whole = λ h. absurd (omega (arith, some-digit value []));
+}
+
+-- One digit more.
+pub one-stored : (buffer : List ℕ) (at value : ℕ) (out : List ℕ) (i rest : ℕ) → at < i → Stored buffer at value out i rest
+    → Stored buffer at value (set out (i - 1) (48 + (rest - rest / 10 * 10))) (i - 1) (rest / 10)
+one-stored buffer at value out i rest h s =
+    let w = s.left h in
+    rw (above-tens rest) (record {
+      left = λ k. digit-put w (grind (arith, one-left w));
+      whole = λ k. text-put w (grind (arith, more-left w));
+    })

@@ -51,20 +51,11 @@ pub fn read(field: &[u8]) -> Option<u64>
     Some(value)
 }
 
-// How many digits `value` has: `limit` is 10 to the power of `count`.
+// How many digits `value` has.
 pub fn digit_count(value: u64) -> usize
     ensures { result ≡ length (decimal value) }
 {
-    let mut count: usize = 1;
-    let mut limit: u64 = 10;
-    while limit <= value {
-        if count == 19 {
-            return 20;
-        }
-        limit = limit * 10;
-        count += 1;
-    }
-    count
+    value.checked_ilog10().unwrap_or(0) as usize + 1
 }
 
 // Writes a number of several digits, its last digit first.
@@ -80,17 +71,13 @@ fn write_long(out: &mut [u8], at: usize, value: u64) -> usize
         return at;
     }
     let end = at + count;
-    let mut i = end;
     let mut rest = value;
-    loop {
+    for i in (at..end).rev() {
         let tenth = rest / 10;
-        i -= 1;
         out[i] = b'0' + (rest - tenth * 10) as u8;
-        if rest < 10 {
-            return end;
-        }
         rest = tenth;
     }
+    end
 }
 
 // Writes `value` into `out` from `at` on, and returns the place after it. Where it has no room, nothing is written, and `at` is

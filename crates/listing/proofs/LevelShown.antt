@@ -1,6 +1,6 @@
 -- What is shown of the answer to an event, as code has it: the level column is read from the processor's place in the next state. Assumes
 -- nothing.
-use Rattle.std.specs.Prelude.{Err, Ok}
+use Rattle.std.specs.Prelude.{Ok}
 use mathlib.Core.Bool.{Bool, true, false, cond}
 use mathlib.Core.Path.{◌≡◌, refl, ap, ◌∙◌}
 use Prim.Native.Nat.{ℕ, ◌%◌}

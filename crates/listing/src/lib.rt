@@ -16,8 +16,7 @@ pub fn processor_of(event: Event) -> Processor
     ensures { result ≡ processor_of event }
 {
     match event {
-        Event::Made { vp, .. } => vp,
-        Event::Int { on, .. } => on,
+        Event::Made { vp: processor, .. } | Event::Int { on: processor, .. } => processor,
     }
 }
 
@@ -26,53 +25,49 @@ pub fn refusal_number(refusal: Refusal) -> u64
     ensures { result ≡ refusal_number refusal }
 {
     match refusal {
-        Refusal::LineTooLong => 1,
-        Refusal::UnknownWord => 1,
-        Refusal::WrongFieldCount => 1,
-        Refusal::NotANumber => 1,
-        Refusal::NotWellFormed => 1,
-        Refusal::NoSuchProcessor => 1,
-        Refusal::NoSuchTarget => 1,
-        Refusal::NoSuchMode => 1,
-        Refusal::LevelOutOfRange => 1,
-        Refusal::MbecOutOfRange => 1,
-        Refusal::LengthOutOfRange => 1,
-        Refusal::ClassOutOfRange => 1,
-        Refusal::VectorOutOfRange => 1,
-        Refusal::NoSuchRegister => 1,
-        Refusal::NoSuchPage => 1,
-        Refusal::InvalidMask => 1,
-        Refusal::ReservedBits => 1,
-        Refusal::Cr0InRealMode => 1,
-        Refusal::NoSuchMask => 1,
-        Refusal::UserMode => 2,
-        Refusal::CallInRealMode => 2,
-        Refusal::RcxNotZero => 2,
-        Refusal::NoHigherLevel => 2,
-        Refusal::ReturnAtLevelZero => 2,
-        Refusal::RcxAboveOne => 2,
-        Refusal::LevelZero => 3,
-        Refusal::AboveMaximum => 3,
-        Refusal::TargetNotAbove => 4,
-        Refusal::TargetGuarded => 4,
-        Refusal::TargetAbove => 4,
-        Refusal::TargetNotBelow => 4,
-        Refusal::ProtectAtLevelZero => 4,
-        Refusal::WatchAtLevelZero => 4,
-        Refusal::EnabledForPartition => 5,
-        Refusal::EnabledOnProcessor => 5,
-        Refusal::NotEnabledForPartition => 6,
-        Refusal::NotEnabledOnProcessor => 6,
-        Refusal::ProtectionsOff => 6,
-        Refusal::NoMbec => 6,
-        Refusal::ProtectionsCleared => 7,
-        Refusal::DefaultMaskChanged => 7,
+        Refusal::LineTooLong
+        | Refusal::UnknownWord
+        | Refusal::WrongFieldCount
+        | Refusal::NotANumber
+        | Refusal::NotWellFormed
+        | Refusal::NoSuchProcessor
+        | Refusal::NoSuchTarget
+        | Refusal::NoSuchMode
+        | Refusal::LevelOutOfRange
+        | Refusal::MbecOutOfRange
+        | Refusal::LengthOutOfRange
+        | Refusal::ClassOutOfRange
+        | Refusal::VectorOutOfRange
+        | Refusal::NoSuchRegister
+        | Refusal::NoSuchPage
+        | Refusal::InvalidMask
+        | Refusal::ReservedBits
+        | Refusal::Cr0InRealMode
+        | Refusal::NoSuchMask => 1,
+        Refusal::UserMode
+        | Refusal::CallInRealMode
+        | Refusal::RcxNotZero
+        | Refusal::NoHigherLevel
+        | Refusal::ReturnAtLevelZero
+        | Refusal::RcxAboveOne => 2,
+        Refusal::LevelZero | Refusal::AboveMaximum => 3,
+        Refusal::TargetNotAbove
+        | Refusal::TargetGuarded
+        | Refusal::TargetAbove
+        | Refusal::TargetNotBelow
+        | Refusal::ProtectAtLevelZero
+        | Refusal::WatchAtLevelZero => 4,
+        Refusal::EnabledForPartition | Refusal::EnabledOnProcessor => 5,
+        Refusal::NotEnabledForPartition
+        | Refusal::NotEnabledOnProcessor
+        | Refusal::ProtectionsOff
+        | Refusal::NoMbec => 6,
+        Refusal::ProtectionsCleared | Refusal::DefaultMaskChanged => 7,
         Refusal::KernelOnlyExecute => 8,
         Refusal::NoReceiver => 10,
         Refusal::HostDenies => 11,
         Refusal::TlbLocked => 12,
-        Refusal::NoReadyVector => 13,
-        Refusal::InterruptFlagClear => 13,
+        Refusal::NoReadyVector | Refusal::InterruptFlagClear => 13,
     }
 }
 
@@ -88,10 +83,7 @@ pub struct Shown {
 fn level_shown(number: u64, active: Level) -> Level
     ensures { result ≡ level_shown number active }
 {
-    if number == 1 {
-        return Level(0);
-    }
-    active
+    if number == 1 { Level(0) } else { active }
 }
 
 // What is shown of an answer, where `active` is the level now active.

@@ -1,5 +1,8 @@
 -- Laws of places: where a byte next stands, where a field ends, and which fields come after it.
 -- Assumes nothing.
+use Rattle.std.specs.Prelude.{Some}
+use Rattle.std.specs.Slice.{IsItemAt}
+use denote.Ref.{Bor}
 use Prim.Native.Nat.{ℕ, suc, ◌+◌, ◌-◌, ◌≤◌, ◌<◌}
 use mathlib.Core.Bool.{Bool, true, false, cond}
 use mathlib.Core.List.{List, [], ◌∷◌}
@@ -15,6 +18,10 @@ use Rattle.script.specs.LineForms.{fields, in_front, tab}
 use Rattle.script.specs.NumberRows.{after_tab, field_end, fields_after, until_tab}
 use Rattle.script.specs.Search.{byte_at, until_byte}
 
+-- A byte that was read at a place of a line.
+pub item-read : (line : List ℕ) (i : ℕ) (x : Bor ℕ) → IsItemAt line i (Some x) → (i < length line) × (x.now ≡ get_or line i 0)
+item-read line i x h = (h.3.0, h.4 (omega arith) 0)
+
 -- Where a byte next stands, from a place on: at this place, past another byte, and at the end.
 module _ (byte : ℕ) (bytes : List ℕ) (i : ℕ) where
   pub at_byte : i < length bytes → get_or bytes i 0 ≡ byte → byte_at byte bytes i ≡ i
@@ -28,10 +35,6 @@ module _ (byte : ℕ) (bytes : List ℕ) (i : ℕ) where
   pub at-end : length bytes ≤ i → byte_at byte bytes i ≡ i
   unfolding until_byte
   at-end h = rw (drop_of_length-le bytes h) (add-zero i)
-
-pub past_next : (byte : ℕ) (bytes : List ℕ) (i j : ℕ) → j ≡ i + 1 → i < length bytes → (get_or bytes i 0 ≡ byte → ⊥)
-    → byte_at byte bytes i ≡ byte_at byte bytes j
-past_next byte bytes i j e h d = rw e (past-byte byte bytes i h d)
 
 pub until-within : (byte : ℕ) (bytes : List ℕ) → until_byte byte bytes ≤ length bytes
 unfolding until_byte

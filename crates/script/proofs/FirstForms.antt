@@ -1,5 +1,5 @@
 -- The two forms of a first line (02, request 1): which one a line has, and what its numbers make. Assumes nothing.
-use Rattle.std.specs.Prelude.{Err, None, Ok, Option, Some}
+use Rattle.std.specs.Prelude.{Err, Ok}
 use Prim.Native.Nat.{ℕ, suc, ◌≤◌}
 use mathlib.Core.Bool.{Bool, true, false, cond}
 use mathlib.Core.List.{List, [], ◌∷◌}
@@ -11,12 +11,12 @@ use lib.ListN.{get_or-eq_default, get_or, length, take}
 use lib.Seq.{length-take-le}
 use Rattle.script.specs.Bytes.{begun, bytes}
 use Rattle.script.specs.First.{first_form, first_line}
-use Rattle.script.specs.LineForms.{UnknownWord, fields, in_form, longest_line, made, numbers_in, said, tab}
-use Rattle.script.specs.NumberRows.{Row, fields_after, is_row, stored, until_tab}
+use Rattle.script.specs.LineForms.{UnknownWord, fields, in_form, longest_line, made, said, tab}
+use Rattle.script.specs.NumberRows.{fields_after, numbers_after, until_tab}
 use Rattle.script.proofs.FieldPlaces.{fields-first, until-within}
 use Rattle.script.proofs.Naming.{begun-same, form_among, line-said}
-use Rattle.script.proofs.Same.{differ, same_true}
-use Rattle.script.proofs.Saying.{stored-number}
+use Rattle.script.proofs.Same.{same_true}
+use Rattle.script.proofs.Saying.{row-held, stored-number}
 
 -- Neither has more than seven numbers.
 pub few-numbers : (seventh : Bool) → (first_form seventh).count ≤ 7
@@ -45,17 +45,13 @@ seventh-field line b =
         go false e = ne_eqb (suc n) 7 (λ h. eqb-false n 6 e (omega arith))
 
 -- The row of the numbers has 0 for SMEP where the line says nothing of it.
-sixth-number : (more : List (List ℕ)) {ok : Bool} {values : List ℕ} → Row 5 more ok values → ok ≡ true → get_or values 5 0 ≡ 0
-sixth-number more {ok} {values} row h = go (numbers_in more) (sym row.tested ∙ h) (row.held h)
-  where
-    go : (numbers : Option (List ℕ)) → is_row 5 numbers ≡ true → values ≡ stored numbers → get_or values 5 0 ≡ 0
-    go None t v = differ t
-    go (Some numbers) t v =
-        let five : length numbers ≡ 5 = eqb-true (length numbers) 5 t in
-        ap (λ (l : List ℕ). get_or l 5 0) v ∙ stored-number numbers 5 (omega arith) ∙ get_or-eq_default numbers 0 (omega arith)
+sixth-number : (more : List (List ℕ)) {values : List ℕ} → numbers_after 5 more ≡ Ok values → get_or values 5 0 ≡ 0
+sixth-number more h =
+    let (numbers, found, counted, held) = row-held 5 more h in
+    ap (λ (l : List ℕ). get_or l 5 0) held ∙ stored-number numbers 5 (omega arith) ∙ get_or-eq_default numbers 0 (omega arith)
 
-pub first_made : (seventh : Bool) (more : List (List ℕ)) {ok : Bool} {values : List ℕ} → Row (first_form seventh).count more ok values → ok ≡ true
+pub first_made : (seventh : Bool) (more : List (List ℕ)) {values : List ℕ} → numbers_after (first_form seventh).count more ≡ Ok values
     → first_line (get_or values 0 0) (get_or values 1 0) (get_or values 2 0) (get_or values 3 0) (get_or values 4 0) (get_or values 5 0)
     ≡ made (first_form seventh).count (first_form seventh).value 0 values
-first_made true more row h = refl
-first_made false more {ok} {values} row h = ap (first_line (get_or values 0 0) (get_or values 1 0) (get_or values 2 0) (get_or values 3 0) (get_or values 4 0)) (sixth-number more row h)
+first_made true more h = refl
+first_made false more {values} h = ap (first_line (get_or values 0 0) (get_or values 1 0) (get_or values 2 0) (get_or values 3 0) (get_or values 4 0)) (sixth-number more h)

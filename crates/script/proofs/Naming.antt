@@ -1,16 +1,17 @@
 -- Laws of the word that a line begins with: how it is compared, and that it decides what the line says.
 -- Assumes nothing.
 use Rattle.std.specs.Prelude.{Err, Ok, Result, None, Some, Option}
-use Prim.Native.Nat.{ℕ, zero, suc, ◌+◌, ◌≤◌, ◌<◌}
+use Rattle.std.specs.Str.{bytes_eq}
+use Rattle.std.specs.Option.{MatchOption, option_or}
+use Prim.Native.Nat.{ℕ, zero, suc, ◌≤◌, ◌<◌}
 use mathlib.Core.Bool.{Bool, true, false, not, cond, ◌&&◌}
-use mathlib.Core.List.{List, [], ◌∷◌, map}
+use mathlib.Core.List.{List, [], ◌∷◌, ◌++◌, map}
 use mathlib.Core.Path.{◌≡◌, refl, sym, ap, ◌∙◌}
 use borrow.Author.Tests.{eq-eqb, eqb-true, eqb-false, leb-true, le-ltb, lt-ltb, ltb-false, ltb-true, ne_eqb}
-use native.Mathlib.Numerals.{add-one}
 use native.Mathlib.Omega.{arith}
 use lib.Dec.{eqb, leb, ltb}
-use lib.ListN.{drop, drop_of_length-le, get_or, length, take}
-use lib.Seq.{drop-cons, length-take-le}
+use lib.ListN.{drop, get_or, length, take}
+use lib.Seq.{length-take-le}
 use Rattle.decimal.proofs.DigitReading.{and_parts}
 use Rattle.model.specs.declared.answer.Refusal.{Refusal}
 use Rattle.model.specs.declared.answer.Refusal.TheVariants.{LineTooLong, UnknownWord}
@@ -18,7 +19,7 @@ use Rattle.script.specs.Bytes.{begun, same}
 use Rattle.script.specs.LineForms.{Form, among, in_form, longest_line, said, tab}
 use Rattle.script.specs.NumberRows.{fields_after, until_tab}
 use Rattle.script.specs.Search.{until_byte}
-use Rattle.script.specs.EventWords.{form_of, named_among, naming, named}
+use Rattle.script.specs.EventWords.{form_of, named_among, naming}
 use Rattle.script.specs.declared.words.Named.{Named}
 use Rattle.script.specs.declared.words.Word.{Word}
 use Rattle.script.proofs.FieldPlaces.{fields-first, until-within}
@@ -37,28 +38,42 @@ too_short [] (a ∷ word) h = refl
 too_short (b ∷ line) [] h = absurd (omega arith)
 too_short (b ∷ line) (a ∷ word) h = rw (too_short line word (omega arith)) (neither (eqb b a))
 
--- A line and a word from a place on: a byte of each, and the tab after the word.
-module _ (line word : List ℕ) (i : ℕ) where
-  one_byte : i < length line → i < length word
-      → begun (drop i line) (drop i word) ≡ (eqb (get_or line i 0) (get_or word i 0) && begun (drop (i + 1) line) (drop (i + 1) word))
+-- The word is taken off the line.
+pub begun-stripped : (line word : List ℕ) → begun line word ≡ (bytes_eq (take (length word) line) word && begun (drop (length word) line) [])
+unfolding begun
+begun-stripped [] [] = refl
+begun-stripped [] (a ∷ word) = refl
+begun-stripped (b ∷ line) [] = refl
+begun-stripped (b ∷ line) (a ∷ word) = go (eqb b a) (begun-stripped line word)
+  where
+    go : (t : Bool) → begun line word ≡ (bytes_eq (take (length word) line) word && begun (drop (length word) line) [])
+        → (t && begun line word) ≡ ((t && bytes_eq (take (length word) line) word) && begun (drop (length word) line) [])
+    go true h = h
+    go false h = refl
+
+pub not-stripped : (line word : List ℕ) → bytes_eq (take (length word) line) word ≡ false → false ≡ begun line word
+not-stripped line word h = sym (begun-stripped line word ∙ ap (λ t. t && begun (drop (length word) line) []) h)
+
+-- A tab or the end of the line has to be what is left.
+module _ (line word rest : List ℕ) (h : bytes_eq (take (length word) line) word ≡ true) (e : rest ≡ drop (length word) line) where
+  stripped : begun rest [] ≡ begun line word
+  stripped = ap (λ (l : List ℕ). begun l []) e ∙ sym (begun-stripped line word ∙ ap (λ t. t && begun (drop (length word) line) []) h)
+
+  pub line-closed : length rest < 1 → true ≡ begun line word
   unfolding begun
-  one_byte h k = rw (add-one i, drop-cons line i 0 h, drop-cons word i 0 k)
+  line-closed l = empty rest l ∙ stripped
+    where
+      empty : (rest : List ℕ) → length rest < 1 → true ≡ begun rest []
+      empty [] l = refl
+      empty (b ∷ rest) l = absurd (omega arith)
 
-  pub other_byte : i < length line → i < length word → (get_or line i 0 ≡ get_or word i 0 → ⊥)
-      → begun (drop i line) (drop i word) ≡ false
-  other_byte h k d = one_byte h k ∙ rw (ne_eqb _ _ d)
-
-  pub same_byte : i < length line → i < length word → get_or line i 0 ≡ get_or word i 0
-      → begun (drop i line) (drop i word) ≡ begun (drop (i + 1) line) (drop (i + 1) word)
-  same_byte h k e = one_byte h k ∙ rw (eq-eqb _ _ e)
-
-  pub word-closed : i < length line → length word ≤ i → begun (drop i line) (drop i word) ≡ eqb (get_or line i 0) tab
+  pub word-closed : 1 ≤ length rest → eqb (get_or rest 0 0) tab ≡ begun line word
   unfolding begun
-  word-closed h k = rw (drop-cons line i 0 h, drop_of_length-le word k)
-
-  pub line-closed : length line ≤ i → length word ≤ i → begun (drop i line) (drop i word) ≡ true
-  unfolding begun
-  line-closed h k = rw (drop_of_length-le line h, drop_of_length-le word k)
+  word-closed l = first rest l ∙ stripped
+    where
+      first : (rest : List ℕ) → 1 ≤ length rest → eqb (get_or rest 0 0) tab ≡ begun rest []
+      first [] l = absurd (omega arith)
+      first (b ∷ rest) l = refl
 
 -- A word that has no tab.
 abbrev pub no_tab : List ℕ → Bool
@@ -149,6 +164,21 @@ named-said (word ∷ words) line = go (begun line (form_of word).word) (named-sa
         ≡ named_said (cond t (naming word) (named_among words line)) line
     go true ih = refl
     go false ih = ih
+
+-- What `or_else` gives, where the other is looked for only if the first is none.
+pub or_cases : (first found other : Option Named) {P : Type 0} → MatchOption first P (λ n. found ≡ Some n) → (P → found ≡ other) → found ≡ option_or first other
+or_cases None found other h f = f h
+or_cases (Some n) found other h f = h
+
+-- The word among some words, or else among others.
+pub or-among : (first others : List Word) (line : List ℕ) → option_or (named_among first line) (named_among others line) ≡ named_among (first ++ others) line
+or-among [] others line = refl
+or-among (word ∷ first) others line = go (begun line (form_of word).word) (or-among first others line)
+  where
+    go : (t : Bool) → option_or (named_among first line) (named_among others line) ≡ named_among (first ++ others) line
+        → option_or (cond t (naming word) (named_among first line)) (named_among others line) ≡ cond t (naming word) (named_among (first ++ others) line)
+    go true h = refl
+    go false h = h
 
 -- The words that begin with a byte.
 unfoldable pub with_first : ℕ → List Word → List Word

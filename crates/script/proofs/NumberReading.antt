@@ -1,22 +1,22 @@
 -- Laws of the loop that reads the numbers of a line into a row.
 -- They keep its invariant, `Reading`, and say what was read at its end. Assumes nothing.
 use Rattle.std.specs.Prelude.{None, Option, Some}
+use Rattle.std.specs.List.{filter}
 use Prim.Native.Nat.{ℕ, zero, suc, ◌+◌, ◌-◌, ◌≤◌, ◌<◌}
-use mathlib.Core.Bool.{Bool, true, false}
+use mathlib.Core.Bool.{Bool, true, false, cond}
 use mathlib.Core.List.{List, [], ◌∷◌, ◌++◌, append_assoc, append-nil}
 use mathlib.Core.Path.{◌≡◌, refl, sym, ap, ◌∙◌}
-use borrow.Author.Tests.{eq-eqb, eqb-false, eqb-true, leb-false, leb-true, ltb-false, ltb-true, ne_eqb}
+use borrow.Author.Tests.{eq-eqb, eqb-false, eqb-true, ltb-false, ltb-true, ne_eqb}
 use native.Mathlib.Numerals.{add-one}
 use native.Mathlib.Omega.{arith}
-use lib.Dec.{eqb, leb, ltb}
+use lib.Dec.{eqb, ltb}
 use lib.ListN.{drop, drop_of_length-le, get_or, length, length-append, replicate, set, take}
 use lib.Seq.{drop-cons, sets}
 use Rattle.decimal.proofs.DigitReading.{digit-byte, followed, no_number as not-number}
 use Rattle.decimal.specs.Read.{digit_of, read_decimal}
 use Rattle.script.specs.LineForms.{fields, followed_by, in_front, numbers_in, tab}
-use Rattle.script.specs.NumberRows.{NumberEnd, Row, field_end, fields_after, is_row}
+use Rattle.script.specs.NumberRows.{NumberEnd, field_end, fields_after, row, row_in}
 use Rattle.script.proofs.FieldPlaces.{at_byte, fields-first, next_field, no_field}
-use Rattle.script.proofs.Same.{differ}
 use Rattle.script.proofs.StoredTexts.{sets-append}
 
 -- Numbers that were read, and those after them.
@@ -34,7 +34,7 @@ joined-one read n (Some more) = rw append_assoc
 
 -- A number after as many as are taken.
 one_more : (takes : ℕ) (read : List ℕ) (next : Option ℕ) (more : Option (List ℕ)) → length read ≡ takes
-    → false ≡ is_row takes (joined read (followed_by next more))
+    → None ≡ row takes (joined read (followed_by next more))
 one_more takes read None more h = refl
 one_more takes read (Some n) None h = refl
 one_more takes read (Some n) (Some more) h =
@@ -51,10 +51,6 @@ numbers-length (field ∷ more) numbers e = go (read_decimal field) (numbers_in 
     go None rest ih e = absurd (let z : ◌≡◌ {A = ℕ} 0 1 = cc in omega arith)
     go (Some n) None ih e = absurd (let z : ◌≡◌ {A = ℕ} 0 1 = cc in omega arith)
     go (Some n) (Some rest) ih e = let whole : numbers ≡ n ∷ rest = cc in ap length whole ∙ ap suc (ih rest refl)
-
--- What was read is no row.
-pub no_row : {takes : ℕ} {more : List (List ℕ)} {values : List ℕ} → false ≡ is_row takes (numbers_in more) → Row takes more false values
-no_row e = record { tested = e; held = λ h. differ h }
 
 -- A field that says a number does not begin with a tab.
 not-tab : (field : List ℕ) (n : ℕ) → read_decimal field ≡ Some n → get_or field 0 0 ≡ tab → ⊥
@@ -87,19 +83,16 @@ empty-field line at h =
 
 module _ {line : List ℕ} {from takes : ℕ} {values : List ℕ} {count at : ℕ} (w : Reading line from takes values count at) where
   -- The end of the line, after as many numbers as are taken.
-  all_read : length line ≤ at → count ≡ takes → Row takes (fields_after line from) true values
+  pub all_read : length line ≤ at → count ≡ takes → Some values ≡ row_in takes (fields_after line from)
   unfolding numbers_in
-  all_read h full = record {
-    tested = rw (w.rest, no_field line at h, append-nil, ← w.counted, eq-eqb count takes full);
-    held = λ k. rw (w.rest, no_field line at h, append-nil) w.stored;
-  }
+  all_read h full = rw (w.rest, no_field line at h, append-nil, ← w.counted, eq-eqb count takes full) (ap Some w.stored)
 
   -- No number comes after a place at or before the line's last byte.
-  pub too_few : length line ≤ at + 1 → count < takes → false ≡ is_row takes (numbers_in (fields_after line from))
+  pub too_few : length line ≤ at + 1 → count < takes → None ≡ row_in takes (fields_after line from)
   unfolding numbers_in
   too_few h fewer = go (ltb at (length line)) refl
     where
-      go : (t : Bool) → ltb at (length line) ≡ t → false ≡ is_row takes (numbers_in (fields_after line from))
+      go : (t : Bool) → ltb at (length line) ≡ t → None ≡ row_in takes (fields_after line from)
       go true e = let last = ltb-true at (length line) e in rw (w.rest, empty-field line at (omega arith))
       go false e =
           rw (w.rest, no_field line at (ltb-false at (length line) e), append-nil, ← w.counted, ne_eqb count takes (λ d. omega arith))
@@ -136,11 +129,11 @@ module _ {line : List ℕ} {from takes : ℕ} {values : List ℕ} {count at : �
         first_plain zero n e t = not-number e
         first_plain (suc k) n e t = not-tab (take (suc k) (drop (at + 1) line)) n e (rw (drop-cons line (at + 1) 0 more) t)
 
-    pub no_number : next ≡ None → false ≡ is_row takes (numbers_in (fields_after line from))
+    pub no_number : next ≡ None → None ≡ row_in takes (fields_after line from)
     unfolding read_decimal
     no_number e = go (eqb (get_or line (at + 1) 0) tab) refl
       where
-        go : (t : Bool) → eqb (get_or line (at + 1) 0) tab ≡ t → false ≡ is_row takes (numbers_in (fields_after line from))
+        go : (t : Bool) → eqb (get_or line (at + 1) 0) tab ≡ t → None ≡ row_in takes (fields_after line from)
         go true t =
             let empty : field_end line (at + 1) - (at + 1) ≡ 0 = omega (arith, at_byte tab line (at + 1) more (eqb-true _ _ t)) in
             rw (w.rest, one_field (omega arith), empty)
@@ -149,37 +142,26 @@ module _ {line : List ℕ} {from takes : ℕ} {values : List ℕ} {count at : �
             rw (w.rest, one_field (omega arith), ← ends, ← says, e)
 
   -- A field after as many numbers as are taken.
-  too_many : at < length line → count ≡ takes → false ≡ is_row takes (numbers_in (fields_after line from))
+  pub too_many : at < length line → count ≡ takes → None ≡ row_in takes (fields_after line from)
   too_many more full =
       let end = field_end line (at + 1) in
       one_more takes w.read (read_decimal (take (end - (at + 1)) (drop (at + 1) line))) (numbers_in (fields_after line end)) (omega (arith, w.counted))
-      ∙ sym (ap (is_row takes) (w.rest ∙ ap (joined w.read) (one_field more)))
+      ∙ sym (ap (row takes) (w.rest ∙ ap (joined w.read) (one_field more)))
 
-  -- After as many numbers as are taken, all depends on whether the line ends.
-  pub ended : count ≡ takes → Row takes (fields_after line from) (leb (length line) at) values
-  ended full = go (leb (length line) at) refl
-    where
-      go : (t : Bool) → leb (length line) at ≡ t → Row takes (fields_after line from) t values
-      go true e = all_read (leb-true (length line) at e) full
-      go false e = no_row (too_many (leb-false (length line) at e) full)
-
--- The fields from a place on are one fewer after a tab, and as many after another byte.
+-- There is a field more than there are tabs.
 some-field : (line : List ℕ) (byte : ℕ) → length (in_front byte (fields line)) ≡ length (fields line)
 some-field line byte = rw (fields-first line)
 
-module _ (line : List ℕ) (i : ℕ) (h : i < length line) where
-  pub tab-counted : get_or line i 0 ≡ tab → length (fields (drop i line)) ≡ suc (length (fields (drop (i + 1) line)))
-  unfolding fields
-  tab-counted e = rw (drop-cons line i 0 h, eq-eqb _ tab e, add-one i)
-
-  pub byte-counted : (get_or line i 0 ≡ tab → ⊥) → length (fields (drop i line)) ≡ length (fields (drop (i + 1) line))
-  unfolding fields
-  byte-counted e = rw (drop-cons line i 0 h, ne_eqb _ tab e, add-one i) (some-field (drop (suc i) line) (get_or line i 0))
+tabs-counted : (line : List ℕ) → length (fields line) ≡ suc (length (filter (λ byte. eqb byte tab) line))
+unfolding fields
+tabs-counted [] = refl
+tabs-counted (byte ∷ line) = go (eqb byte tab) (tabs-counted line)
+  where
+    go : (t : Bool) → length (fields line) ≡ suc (length (filter (λ byte. eqb byte tab) line))
+        → length (cond t ([] ∷ fields line) (in_front byte (fields line))) ≡ suc (length (cond t (byte ∷ filter (λ byte. eqb byte tab) line) (filter (λ byte. eqb byte tab) line)))
+    go true h = ap suc h
+    go false h = some-field line byte ∙ h
 
 -- How many fields come after the one that ends at a place.
-pub counted-after : (line : List ℕ) (from : ℕ) → from < length line → length (fields_after line from) ≡ length (fields (drop (from + 1) line))
-counted-after line from h = rw (drop-cons line from 0 h, add-one from)
-
-pub last-counted : (line : List ℕ) (i : ℕ) → length line ≤ i → length (fields (drop i line)) ≡ 1
-unfolding fields
-last-counted line i h = rw (drop_of_length-le line h)
+pub counted-after : (line : List ℕ) (from : ℕ) → from < length line → 1 + length (filter (λ byte. eqb byte tab) (drop (from + 1) line)) ≡ length (fields_after line from)
+counted-after line from h = rw (drop-cons line from 0 h, add-one from) (omega (arith, tabs-counted (drop (suc from) line)))

@@ -1,11 +1,11 @@
 -- Laws of what a line says, by the row that its numbers were read into.
 -- Assumes nothing.
-use Rattle.std.specs.Prelude.{None, Option, Some}
+use Rattle.std.specs.Prelude.{Err, None, Ok, Option, Some, Result, ok_or}
 use Prim.Native.Nat.{ℕ, zero, suc, ◌+◌, ◌≤◌}
 use mathlib.Core.Bool.{Bool, true, false, cond}
 use mathlib.Core.List.{List, [], ◌∷◌, ◌++◌}
 use mathlib.Core.Path.{◌≡◌, refl, sym, ap, ◌∙◌}
-use borrow.Author.Tests.{eqb-true}
+use borrow.Author.Tests.{eq-eqb, eqb-true}
 use native.Mathlib.Omega.{arith}
 use lib.Dec.{eqb}
 use lib.ListN.{drop, get_or, length, replicate}
@@ -14,9 +14,8 @@ use Rattle.model.specs.declared.answer.Refusal.{Refusal}
 use Rattle.model.specs.declared.answer.Refusal.TheVariants.{NotANumber, WrongFieldCount}
 use Rattle.script.specs.EventForms.{after}
 use Rattle.script.specs.LineForms.{Form, From, in_form, made, numbers_in, of_numbers}
-use Rattle.script.specs.NumberRows.{Row, is_row, refusal_in, stored}
+use Rattle.script.specs.NumberRows.{numbers_after, refusal_in, row}
 use Rattle.script.proofs.NumberReading.{numbers-length}
-use Rattle.script.proofs.Same.{differ}
 
 -- Numbers that are stored into a row of zeros are read from it again.
 zeros : (n i : ℕ) → ◌≡◌ {A = ℕ} (get_or (replicate n 0) i 0) 0
@@ -47,29 +46,44 @@ pub after-made : {A B : Type 0} (n : ℕ) (f : A → B) (value : From n A) (plac
 after-made zero f value place numbers = refl
 after-made (suc n) f value place numbers = after-made n f (value (get_or numbers place 0)) (suc place) numbers
 
--- What a form's fields say, by the row that they were read into.
-module _ {A R : Type 0} (good : A → R) (bad : Refusal → R) (form : Form A) (few : form.count ≤ 7) (more : List (List ℕ)) {ok : Bool}
-    {values : List ℕ} (row : Row form.count more ok values)
+-- Fields whose numbers were taken say as many numbers, which stand in the row.
+pub row-held : (n : ℕ) (more : List (List ℕ)) {values : List ℕ} → numbers_after n more ≡ Ok values
+    → (numbers : List ℕ) × (numbers_in more ≡ Some numbers) × (length numbers ≡ n) × (values ≡ sets (replicate 7 0) 0 numbers)
+row-held n more {values} h = go (numbers_in more) refl h
   where
-    pub row-said : ok ≡ true → good (made form.count form.value 0 values) ≡ in_form good bad form more
-    row-said h = go (numbers_in more) refl (sym row.tested ∙ h) (row.held h)
+    go : (found : Option (List ℕ)) → numbers_in more ≡ found → ok_or (row n found) (refusal_in n more) ≡ Ok values
+        → (numbers : List ℕ) × (numbers_in more ≡ Some numbers) × (length numbers ≡ n) × (values ≡ sets (replicate 7 0) 0 numbers)
+    go None f e = absurd cc
+    go (Some numbers) f e = by_count (eqb (length numbers) n) refl e
       where
-        go : (numbers : Option (List ℕ)) → numbers_in more ≡ numbers → is_row form.count numbers ≡ true → values ≡ stored numbers
-            → good (made form.count form.value 0 values) ≡ cond (eqb (length more) form.count) (of_numbers good bad form numbers) (bad WrongFieldCount)
-        go None f t v = differ t
-        go (Some numbers) f t v =
-            rw (← (numbers-length more numbers f), t)
-            (ap good (made-same form.count form.value 0 values numbers
-            (λ i. ap (λ (l : List ℕ). get_or l i 0) v ∙ stored-number numbers i (omega (arith, eqb-true (length numbers) form.count t)))))
+        by_count : (t : Bool) → eqb (length numbers) n ≡ t → ok_or (cond t (Some (sets (replicate 7 0) 0 numbers)) None) (refusal_in n more) ≡ Ok values
+            → (numbers : List ℕ) × (numbers_in more ≡ Some numbers) × (length numbers ≡ n) × (values ≡ sets (replicate 7 0) 0 numbers)
+        by_count true t e = (numbers, f, eqb-true (length numbers) n t, cc)
+        by_count false t e = absurd cc
 
-    pub row-malformed : ok ≡ false → bad (refusal_in form.count more) ≡ in_form good bad form more
-    row-malformed h = go (numbers_in more) refl (sym row.tested ∙ h)
-      where
-        go : (numbers : Option (List ℕ)) → numbers_in more ≡ numbers → is_row form.count numbers ≡ false
-            → bad (refusal_in form.count more) ≡ cond (eqb (length more) form.count) (of_numbers good bad form numbers) (bad WrongFieldCount)
-        go None f t = by_count (eqb (length more) form.count)
-          where
-            by_count : (t : Bool) → bad (cond t NotANumber WrongFieldCount) ≡ cond t (bad NotANumber) (bad WrongFieldCount)
-            by_count true = refl
-            by_count false = refl
-        go (Some numbers) f t = rw (← (numbers-length more numbers f), t)
+-- What a form's fields say, by the numbers that were taken of them, or by why they were refused.
+module _ {A R : Type 0} (good : A → R) (bad : Refusal → R) (form : Form A) (few : form.count ≤ 7) (more : List (List ℕ)) where
+  pub row-said : {values : List ℕ} → numbers_after form.count more ≡ Ok values → good (made form.count form.value 0 values) ≡ in_form good bad form more
+  row-said {values} h =
+      let (numbers, found, counted, held) = row-held form.count more h in
+      let size : length more ≡ form.count = sym (numbers-length more numbers found) ∙ counted in
+      rw (eq-eqb (length more) form.count size, found)
+      (ap good (made-same form.count form.value 0 values numbers
+      (λ i. ap (λ (l : List ℕ). get_or l i 0) held ∙ stored-number numbers i (omega arith))))
+
+  pub row-malformed : {refusal : Refusal} → numbers_after form.count more ≡ Err refusal → bad refusal ≡ in_form good bad form more
+  row-malformed {refusal} h = go (numbers_in more) refl h
+    where
+      go : (found : Option (List ℕ)) → numbers_in more ≡ found → ok_or (row form.count found) (refusal_in form.count more) ≡ Err refusal
+          → bad refusal ≡ cond (eqb (length more) form.count) (of_numbers good bad form found) (bad WrongFieldCount)
+      go None f e = by_count (eqb (length more) form.count) e
+        where
+          by_count : (t : Bool) → ◌≡◌ {A = Result (List ℕ) Refusal} (Err (cond t NotANumber WrongFieldCount)) (Err refusal) → bad refusal ≡ cond t (bad NotANumber) (bad WrongFieldCount)
+          by_count true e = cc
+          by_count false e = cc
+      go (Some numbers) f e = rw (← (numbers-length more numbers f)) (by_count (eqb (length numbers) form.count) (rw (← (numbers-length more numbers f)) at e))
+        where
+          by_count : (t : Bool) → ok_or (cond t (Some (sets (replicate 7 0) 0 numbers)) None) (cond t NotANumber WrongFieldCount) ≡ Err refusal
+              → bad refusal ≡ cond t (good (made form.count form.value 0 numbers)) (bad WrongFieldCount)
+          by_count true e = absurd cc
+          by_count false e = cc

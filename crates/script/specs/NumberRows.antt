@@ -1,6 +1,6 @@
 -- How the code finds the fields of a line, and how it holds their numbers.
 -- Assumes nothing.
-use Rattle.std.specs.Prelude.{Bool, true, false, cond, List, [], ◌∷◌, ◌≡◌, ℕ, ◌≤◌, eqb, drop, get_or, length, replicate, None, Option, Some}
+use Rattle.std.specs.Prelude.{cond, List, [], ◌∷◌, ◌≡◌, ℕ, ◌≤◌, eqb, drop, get_or, length, replicate, None, Option, Some, Result, ok_or}
 use Rattle.std.proofs.lemmas.List.Edits.{sets}
 use Rattle.script.specs.LineForms.{Refusal, NotANumber, WrongFieldCount, fields, numbers_in, tab}
 use Rattle.script.specs.Search.{byte_at, until_byte}
@@ -25,20 +25,17 @@ fields_after line end = after_tab (drop end line)
 abbrev pub refusal_in : ℕ → List (List ℕ) → Refusal
 refusal_in takes more = cond (eqb (length more) takes) NotANumber WrongFieldCount
 
--- Whether there are as many numbers as are taken.
-abbrev pub is_row : ℕ → Option (List ℕ) → Bool
-is_row takes None = false
-is_row takes (Some numbers) = eqb (length numbers) takes
+-- Numbers in front of zeros, where there are as many as are taken.
+abbrev pub row : ℕ → Option (List ℕ) → Option (List ℕ)
+row takes None = None
+row takes (Some numbers) = cond (eqb (length numbers) takes) (Some (sets (replicate 7 0) 0 numbers)) None
 
--- Numbers that are stored in front of zeros.
-abbrev pub stored : Option (List ℕ) → List ℕ
-stored None = replicate 7 0
-stored (Some numbers) = sets (replicate 7 0) 0 numbers
+-- The same of the numbers that fields say, and why they are refused where there is no such row.
+abbrev pub row_in : ℕ → List (List ℕ) → Option (List ℕ)
+row_in takes more = row takes (numbers_in more)
 
--- What is known once fields were read: whether they are just as many numbers as are taken, and then where these stand.
-pub record Row (takes : ℕ) (more : List (List ℕ)) (ok : Bool) (values : List ℕ) : Type 0 where
-  pub tested : ok ≡ is_row takes (numbers_in more)
-  pub held : ok ≡ true → values ≡ stored (numbers_in more)
+abbrev pub numbers_after : ℕ → List (List ℕ) → Result (List ℕ) Refusal
+numbers_after takes more = ok_or (row_in takes more) (refusal_in takes more)
 
 -- Where the field from `start` on was found to end. A field that begins with a tab is empty: it says no number wherever it is ended.
 pub record NumberEnd (line : List ℕ) (start end : ℕ) : Type 0 where

@@ -1,6 +1,6 @@
 // The fields of a line (01, "Script and listing"), found from tab to tab and handed on as parts of the line, and the numbers that they say.
-ghost use Rattle.std.specs.Prelude.{◌≡◌, ◌<◌, ◌≤◌, length, replicate};
-ghost use Rattle.script.specs.NumberRows.{NumberEnd, Row, fields_after, refusal_in};
+ghost use Rattle.std.specs.Prelude.{◌≡◌, ◌<◌, ◌≤◌, length};
+ghost use Rattle.script.specs.NumberRows.{NumberEnd, fields_after, numbers_after, refusal_in, row_in};
 
 use crate::search::find_byte;
 use model::answer::Refusal;
@@ -11,13 +11,11 @@ fn number_end(line: &[u8], start: usize) -> usize
     ensures { NumberEnd line.now start result }
 {
     let next = start + 1;
-    if line.len() <= next {
-        return line.len();
+    match line.get(next) {
+        None => line.len(),
+        Some(b'\t') => next,
+        Some(_) => find_byte(line, next + 1, b'\t'),
     }
-    if line[next] == b'\t' {
-        return next;
-    }
-    find_byte(line, start, b'\t')
 }
 
 // How many fields come after the one that ends at `from`: as many as tabs.
@@ -27,20 +25,16 @@ pub(crate) fn count_after(line: &[u8], from: usize) -> usize
     if line.len() <= from {
         return 0;
     }
-    let mut count: usize = 1;
-    let mut i = from + 1;
-    while i < line.len() {
-        if line[i] == b'\t' {
-            count += 1;
-        }
-        i += 1;
-    }
-    count
+    1 + line[from + 1..]
+        .iter()
+        .filter(|byte| **byte == b'\t')
+        .count()
 }
 
 // Why the fields after the one that ends at `from` are refused: there are not `takes` of them, or one is not a number.
 // Only a refused line pays for it.
-pub(crate) fn refusal(line: &[u8], from: usize, takes: usize) -> Refusal
+#[cold]
+fn refusal(line: &[u8], from: usize, takes: usize) -> Refusal
     ensures { result ≡ refusal_in takes (fields_after line.now from) }
 {
     if count_after(line, from) == takes {
@@ -49,27 +43,37 @@ pub(crate) fn refusal(line: &[u8], from: usize, takes: usize) -> Refusal
     Refusal::WrongFieldCount
 }
 
-// Reads the numbers of the fields after the one that ends at `from` into `values`, and says whether there are exactly `takes` of them.
-pub(crate) fn numbers(line: &[u8], from: usize, takes: usize, values: &mut [u64; 7]) -> bool
+// The numbers of the fields after the one that ends at `from`, in front of zeros, where there are exactly `takes` of them. This and
+// `numbers` are inlined, so that the row is not copied at each line.
+#[inline(always)]
+fn row(line: &[u8], from: usize, takes: usize) -> Option<[u64; 7]>
     requires from_in_bounds { from ≤ length line.now }
     requires takes_bound { takes ≤ 7 }
-    requires values_value { values.old ≡ replicate 7 0 }
-    ensures { Row takes (fields_after line.now from) result values.new }
+    ensures { result ≡ row_in takes (fields_after line.now from) }
 {
-    let mut count: usize = 0;
+    let mut values = [0; 7];
     let mut at = from;
-    while count < takes {
+    for count in 0..takes {
         let start = at + 1;
         if line.len() <= start {
-            return false;
+            return None;
         }
         let end = number_end(line, start);
-        let Some(value) = decimal::read(&line[start..end]) else {
-            return false;
-        };
-        values[count] = value;
-        count += 1;
+        values[count] = decimal::read(&line[start..end])?;
         at = end;
     }
-    line.len() <= at
+    if at < line.len() {
+        return None;
+    }
+    Some(values)
+}
+
+// The same numbers, or why the fields are refused.
+#[inline(always)]
+pub(crate) fn numbers(line: &[u8], from: usize, takes: usize) -> Result<[u64; 7], Refusal>
+    requires from_in_bounds { from ≤ length line.now }
+    requires takes_bound { takes ≤ 7 }
+    ensures { result ≡ numbers_after takes (fields_after line.now from) }
+{
+    row(line, from, takes).ok_or_else(|| refusal(line, from, takes))
 }

@@ -27,13 +27,8 @@ pub fn parse(line: &[u8]) -> Result<Event, Refusal>
     if LONGEST_LINE < line.len() {
         return Err(Refusal::LineTooLong);
     }
-    let Some(named) = words::word_of(line) else {
-        return Err(Refusal::UnknownWord);
-    };
-    let mut values = [0u64; 7];
-    if !fields::numbers(line, named.end, named.takes, &mut values) {
-        return Err(fields::refusal(line, named.end, named.takes));
-    }
+    let named = words::word_of(line).ok_or(Refusal::UnknownWord)?;
+    let values = fields::numbers(line, named.end, named.takes)?;
     Ok(line_events::event(named.word, &values))
 }
 
@@ -57,17 +52,17 @@ pub fn parse_first(line: &[u8]) -> Result<FirstLine, Refusal>
     if !words::begins(line, b"vsm") {
         return Err(Refusal::UnknownWord);
     }
-    let takes = first_takes(line);
-    let mut values = [0u64; 7];
-    if !fields::numbers(line, 3, takes, &mut values) {
-        return Err(fields::refusal(line, 3, takes));
-    }
+    let [processors, max_level, pages, dr6_shared, host_mask, smep, _] = fields::numbers(
+        line,
+        3,
+        first_takes(line),
+    )?;
     Ok(FirstLine {
-        processors: values[0],
-        max_level: Level(values[1]),
-        pages: values[2],
-        dr6_shared: values[3],
-        host_mask: values[4],
-        smep: values[5],
+        processors,
+        max_level: Level(max_level),
+        pages,
+        dr6_shared,
+        host_mask,
+        smep,
     })
 }

@@ -1,7 +1,8 @@
 // The event words, compared byte for byte with the beginning of a line. The first byte says which few come into question.
-ghost use Rattle.std.specs.Prelude.{cond, ◌≡◌, length};
+ghost use Rattle.std.specs.Prelude.{cond, ◌≡◌, length, None};
 ghost use Rattle.script.specs.Bytes.{begun};
 ghost use Rattle.script.specs.EventWords.{named, named_among, words, words_with_c};
+ghost use Rattle.script.specs.declared.words.Word.TheVariants.{Made};
 
 // The words of the events that a level makes.
 #[derive(Clone, Copy)]
@@ -47,27 +48,16 @@ pub struct Named {
 pub fn begins(line: &[u8], name: &[u8]) -> bool
     ensures { result ≡ begun line.now name.now }
 {
-    let end = name.len();
-    if line.len() < end {
-        return false;
+    match line.strip_prefix(name) {
+        Some([]) => true,
+        Some([next, ..]) => *next == b'\t',
+        None => false,
     }
-    let mut i: usize = 0;
-    while i < end {
-        if line[i] != name[i] {
-            return false;
-        }
-        i += 1;
-    }
-    if line.len() == end {
-        return true;
-    }
-    line[end] == b'\t'
 }
 
-// This word, where the line begins with its name, or what was found otherwise.
-fn pick(line: &[u8], name: &[u8], word: Word, takes: usize, otherwise: Option<Named>) -> Option<Named>
-    ensures { result ≡ cond (begun line.now name.now)
-        (named word (length name.now) takes) otherwise }
+// This word, where the line begins with its name.
+fn pick(line: &[u8], name: &[u8], word: Word, takes: usize) -> Option<Named>
+    ensures { result ≡ cond (begun line.now name.now) (named word (length name.now) takes) None }
 {
     if begins(line, name) {
         return Some(Named {
@@ -76,62 +66,71 @@ fn pick(line: &[u8], name: &[u8], word: Word, takes: usize, otherwise: Option<Na
             takes,
         });
     }
-    otherwise
+    None
+}
+
+// The same of a word of an event that a level makes.
+fn made(line: &[u8], name: &[u8], word: ActionWord, takes: usize) -> Option<Named>
+    ensures { result ≡ cond (begun line.now name.now) (named (Made word) (length name.now) takes) None }
+{
+    pick(line, name, Word::Made(word), takes)
 }
 
 // The same among the words that begin with c. The second byte says whether it can be one of request 6.
 fn word_with_c(line: &[u8]) -> Option<Named>
     ensures { result ≡ named_among words_with_c line.now }
 {
-    let none = None;
-    if line.len() < 2 {
-        return none;
+    match *line.get(1)? {
+        b'r' => made(line, b"cri", ActionWord::Cri, 3).or_else(|| made(
+            line,
+            b"crm",
+            ActionWord::Crm,
+            4,
+        )),
+        _ => made(line, b"call", ActionWord::Call, 3)
+            .or_else(|| made(line, b"config", ActionWord::Config, 4))
+            .or_else(|| made(line, b"caps", ActionWord::Caps, 2)),
     }
-    if line[1] == b'r' {
-        let crm = pick(line, b"crm", Word::Made(ActionWord::Crm), 4, none);
-        return pick(line, b"cri", Word::Made(ActionWord::Cri), 3, crm);
-    }
-    let caps = pick(line, b"caps", Word::Made(ActionWord::Caps), 2, none);
-    let config = pick(line, b"config", Word::Made(ActionWord::Config), 4, caps);
-    pick(line, b"call", Word::Made(ActionWord::Call), 3, config)
 }
 
 // The event word that a line begins with.
 pub fn word_of(line: &[u8]) -> Option<Named>
     ensures { result ≡ named_among words line.now }
 {
-    if line.len() == 0 {
-        return None;
-    }
-    let none = None;
-    match line[0] {
-        b'a' => pick(line, b"ack", Word::Made(ActionWord::Ack), 2, none),
+    match *line.first()? {
+        b'a' => made(line, b"ack", ActionWord::Ack, 2),
         b'c' => word_with_c(line),
-        b'e' => {
-            let envp = pick(line, b"envp", Word::Made(ActionWord::Envp), 7, none);
-            pick(line, b"enpart", Word::Made(ActionWord::Enpart), 4, envp)
-        }
-        b'f' => {
-            let flush = pick(line, b"flush", Word::Made(ActionWord::Flush), 2, none);
-            pick(line, b"fetch", Word::Made(ActionWord::Fetch), 3, flush)
-        }
-        b'i' => pick(line, b"int", Word::Interrupt, 3, none),
-        b'p' => {
-            let pstat = pick(line, b"pstat", Word::Made(ActionWord::Pstat), 2, none);
-            pick(line, b"protect", Word::Made(ActionWord::Protect), 4, pstat)
-        }
-        b'r' => {
-            let rreg = pick(line, b"rreg", Word::Made(ActionWord::Rreg), 4, none);
-            let read = pick(line, b"read", Word::Made(ActionWord::Read), 3, rreg);
-            pick(line, b"ret", Word::Made(ActionWord::Ret), 3, read)
-        }
-        b's' => pick(line, b"secure", Word::Made(ActionWord::Secure), 4, none),
-        b't' => pick(line, b"tpr", Word::Made(ActionWord::Tpr), 3, none),
-        b'v' => pick(line, b"vstat", Word::Made(ActionWord::Vstat), 2, none),
-        b'w' => {
-            let wreg = pick(line, b"wreg", Word::Made(ActionWord::Wreg), 5, none);
-            pick(line, b"write", Word::Made(ActionWord::Write), 4, wreg)
-        }
+        b'e' => made(line, b"enpart", ActionWord::Enpart, 4).or_else(|| made(
+            line,
+            b"envp",
+            ActionWord::Envp,
+            7,
+        )),
+        b'f' => made(line, b"fetch", ActionWord::Fetch, 3).or_else(|| made(
+            line,
+            b"flush",
+            ActionWord::Flush,
+            2,
+        )),
+        b'i' => pick(line, b"int", Word::Interrupt, 3),
+        b'p' => made(line, b"protect", ActionWord::Protect, 4).or_else(|| made(
+            line,
+            b"pstat",
+            ActionWord::Pstat,
+            2,
+        )),
+        b'r' => made(line, b"ret", ActionWord::Ret, 3)
+            .or_else(|| made(line, b"read", ActionWord::Read, 3))
+            .or_else(|| made(line, b"rreg", ActionWord::Rreg, 4)),
+        b's' => made(line, b"secure", ActionWord::Secure, 4),
+        b't' => made(line, b"tpr", ActionWord::Tpr, 3),
+        b'v' => made(line, b"vstat", ActionWord::Vstat, 2),
+        b'w' => made(line, b"write", ActionWord::Write, 4).or_else(|| made(
+            line,
+            b"wreg",
+            ActionWord::Wreg,
+            5,
+        )),
         _ => None,
     }
 }

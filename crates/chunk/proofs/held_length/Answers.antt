@@ -7,4 +7,4 @@ use Rattle.chunk.proofs.held_length.Goals as goal
 pub returns : goal.returns
 returns c =
     let a = c.args in
-    omega (arith, c.at_most.ensures, c.buffer-1.given, length-take (min a.length 257) a.line.now)
+    omega (arith, c.min.ensures, c.told-line, length-take (min a.length 257) a.line.now)

@@ -1,10 +1,7 @@
--- `decimal::write_long` meets its contract. The loop's invariant is `Writing`, and the measure is what is left of the number.
+-- The invariant of `decimal::write_long`: the last digits stand from `i` on, and those of `rest` are left for the places before it.
 -- Assumes nothing.
-use Rattle.decimal.proofs.Writing.{Writing}
+use Rattle.decimal.proofs.Writing.{Stored}
 use Rattle.decimal.proofs.write_long.Given as goal
 
-abbrev pub invariant-loop-rest : goal.invariant-loop-rest
-invariant-loop-rest l = Writing l.initial.out l.at l.value l.out l.i l.rest
-
-abbrev pub decreases-loop-rest : goal.decreases-loop-rest
-decreases-loop-rest l = l.rest
+abbrev pub invariant-loop-i : goal.invariant-loop-i
+invariant-loop-i l = Stored l.initial.out l.at l.value l.out l.i l.rest

@@ -1,24 +1,24 @@
--- `script::fields::count_after` meets its contract. The loop's invariant: the fields that were counted and those from `i` on are one
--- more than there are. The measure is what is left of the line. Assumes nothing.
+-- `script::fields::count_after` meets its contract: a field more than there are tabs after the first byte. Assumes nothing.
+use Rattle.std.proofs.Common.{rules, tests}
+use Rattle.std.proofs.lemmas.Iterator.{YieldsList-from_slice}
+use Rattle.std.proofs.lemmas.Iterator.Consumers.{count_from_yields_List, YieldsList-from_filter}
 use native.Mathlib.Omega.{arith}
+use lib.Dec.{eqb}
+use lib.ListN.{drop, length-drop}
+use lib.Seq.{take_all}
+use mathlib.Core.Path.{ap, ◌∙◌}
+use Rattle.std.specs.Slice.Iter.{iter_rest}
+use Prim.Native.Nat.{◌+◌}
+use Rattle.script.specs.LineForms.{tab}
 use Rattle.script.proofs.FieldPlaces.{no_field}
-use Rattle.script.proofs.NumberReading.{byte-counted, counted-after, last-counted, tab-counted}
+use Rattle.script.proofs.NumberReading.{counted-after}
 use Rattle.script.proofs.fields.count_after.Goals as goal
-use Rattle.script.proofs.fields.count_after.Goals.{then-line-i-eq9, else-line-i-eq9}
 
 pub returns-then-line-from : goal.returns-then-line-from
 returns-then-line-from c = rw (no_field _ _ c.if-line-from.true)
 
-pub loop-i-init : goal.loop-i-init
-loop-i-init c = let a = c.args in (omega (arith, counted-after a.line.now a.from c.if-line-from.false), omega arith)
-
-pub loop-i-preserved : goal.loop-i-preserved
-loop-i-preserved c =
-    let line = c.args.line.now in
-    elim c.if-line-i-eq9.branch [
-      | then-line-i-eq9 w ↦ (omega (arith, tab-counted line c.loop-i.i (omega arith) w.if-line-i-eq9.true), omega arith)
-      | else-line-i-eq9 w ↦ (omega (arith, byte-counted line c.loop-i.i (omega arith) w.if-line-i-eq9.false), omega arith)
-    ]
-
 pub returns : goal.returns
-returns c = omega (arith, last-counted c.args.line.now c.loop-i.i c.loop-i-test.false)
+returns c =
+    let a = c.args in
+    let tabs = count_from_yields_List c.filter.result _ c.count.ensures.ran (YieldsList-from_filter _ (λ byte. eqb byte tab) (YieldsList-from_slice (drop (a.from + 1) a.line.now) (ap iter_rest c.filter.ensures.source ∙ c.iter.ensures.rest ∙ take_all _ _ (omega (arith, length-drop (a.from + 1) a.line.now)))) c.filter.ensures.closure (λ x b q k. search (rules, tests))) in
+    omega (arith, counted-after a.line.now a.from c.if-line-from.false)

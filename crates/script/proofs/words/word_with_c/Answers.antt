@@ -1,8 +1,10 @@
 -- `script::words::word_with_c` meets its contract: a line of one byte begins with no word, and the second byte of another tells whether it
 -- can be a word of request 6. Assumes nothing.
-use Rattle.std.specs.Prelude.{None, Option, Some}
+use Rattle.std.specs.Prelude.{None}
+use Rattle.std.proofs.Common.{rules}
+use Rattle.std.specs.Option.{option_or}
 use mathlib.Core.List.{List, [], ◌∷◌, map}
-use mathlib.Core.Path.{◌≡◌, sym}
+use mathlib.Core.Path.{◌≡◌, sym, ap, ◌∙◌}
 use Prim.Native.Nat.{ℕ, ◌<◌}
 use native.Mathlib.Omega.{arith}
 use lib.ListN.{get_or, length}
@@ -10,7 +12,8 @@ use Rattle.script.specs.Bytes.{bytes}
 use Rattle.script.specs.EventWords.{named_among, words_with_c}
 use Rattle.script.specs.declared.words.ActionWord.TheVariants.{Call, Config, Caps, Cri, Crm}
 use Rattle.script.specs.declared.words.Word.TheVariants.{Made}
-use Rattle.script.proofs.Naming.{other_at, too_short}
+use Rattle.script.proofs.FieldPlaces.{item-read}
+use Rattle.script.proofs.Naming.{or-among, or_cases, other_at, too_short}
 use Rattle.script.proofs.words.word_with_c.Goals as goal
 
 module _ (line : List ℕ) where
@@ -35,11 +38,20 @@ module _ (line : List ℕ) where
   without-r : (get_or line 1 0 ≡ 114 → ⊥) → named_among (map Made (Call ∷ Config ∷ Caps ∷ [])) line ≡ named_among words_with_c line
   without-r h = rw (other_at line (bytes "cri") 1 (omega arith) (λ e. h (sym e)), other_at line (bytes "crm") 1 (omega arith) (λ e. h (sym e)))
 
-pub returns-then-line-lt2 : goal.returns-then-line-lt2
-returns-then-line-lt2 c = none-short _ c.if-line-lt2.true
+pub returns-in_err-get : goal.returns-in_err-get
+returns-in_err-get c = c.from_residual.ensures ∙ none-short _ (omega (arith, c.in_err-get.ensures.lookup))
 
-pub returns-then-line-eq114 : goal.returns-then-line-eq114
-returns-then-line-eq114 c = rw (c.pick.ensures, c.pick-crm.ensures) (with-r _ (omega arith))
+pub returns-in-114 : goal.returns-in-114
+returns-in-114 c =
+    let second = item-read _ 1 c.in_ok-get.field-0 c.in_ok-get.ensures.lookup in
+    let found : c.or_else.result ≡ named_among (map Made (Cri ∷ Crm ∷ [])) c.args.line.now = search rules in
+    found ∙ with-r _ (omega arith)
 
-pub returns : goal.returns
-returns c = rw (c.pick-2.ensures, c.pick-config.ensures, c.pick-caps.ensures) (without-r _ (omega arith))
+pub returns-in_default : goal.returns-in_default
+returns-in_default c =
+    let second = item-read _ 1 c.in_ok-get.field-0 c.in_ok-get.ensures.lookup in
+    let line = c.args.line.now in
+    let first : c.or_else-in_default.result ≡ named_among (map Made (Call ∷ Config ∷ [])) line = search rules in
+    let other = named_among (Made Caps ∷ []) line in
+    or_cases _ _ other c.or_else-in_default-2.ensures (λ p. search rules) ∙ ap (λ o. option_or o other) first
+    ∙ or-among (map Made (Call ∷ Config ∷ [])) (Made Caps ∷ []) line ∙ without-r _ (λ e. omega arith)
