@@ -189,6 +189,7 @@ pub fn read<R: Read>(
     ensures outcome { is_done report.new.outcome ≡ (is_done report.old.outcome && is_ok result) }
     ensures taken { Taken (R.remaining input.old) (R.remaining input.new) result chunk.new }
 {
+    // A match here and in `write`: a proof knows nothing of a report that a closure was lent.
     match input.read(chunk) {
         Ok(n) => Ok(n),
         Err(error) => Err(failed(report, name, error)),
@@ -206,6 +207,7 @@ pub fn fill<R: Read>(
     ensures outcome { is_done report.new.outcome ≡ (is_done report.old.outcome && is_ok result) }
     ensures filled { Filled (R.remaining input.old) (R.remaining input.new) result chunk.new }
 {
+    // A counter, and not a slice that shrinks: it is the result.
     let mut done: usize = 0;
     while done < chunk.len() {
         let n = read(report, input, name, &mut chunk[done..])?;

@@ -52,7 +52,10 @@ pub struct Listing {
 }
 
 impl Listing {
-    pub fn new() -> Listing {
+    pub fn new() -> Listing
+        ensures records { 65536 ≡ length result.records }
+        ensures last { 84 ≡ length result.last }
+    {
         Listing {
             records: buffer(),
             last: [0; LONGEST_RECORD],
