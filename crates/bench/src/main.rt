@@ -3,10 +3,19 @@
 // `main` has no contract: what the arguments and the files hold is open.
 #![tactic(auto)]
 
+use shell::Listing;
 use std::process::ExitCode;
 
 fn main(rt: HostRuntime) -> ExitCode {
     shell::run_on_each(&rt, |report, input, name| {
-        shell::run(report, input, &mut rt.stdout(), name, session::fresh())
+        let mut listing = Listing::new();
+        shell::run(
+            report,
+            input,
+            &mut rt.stdout(),
+            &mut listing,
+            name,
+            session::fresh(),
+        )
     })
 }

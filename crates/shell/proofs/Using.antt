@@ -1,64 +1,74 @@
 -- A chunk that is used piece by piece, and what is written of it. Assumes nothing.
-use Rattle.std.proofs.Common.{◌≡◌, ℕ, ◌+◌, ◌-◌, ◌<◌, ◌≤◌, List, [], ◌++◌, length, take, sym, subst, ap, ◌∙◌, refl, append-nil, arith, take_all}
+use Rattle.std.proofs.Common.{◌≡◌, ℕ, ◌+◌, ◌-◌, ◌<◌, List, [], ◌++◌, length, take, sym, subst, ap, ◌∙◌, refl, append_assoc, append-nil, arith, length-append}
+use Rattle.std.proofs.Math.Seq.{take-append_seam}
+use Rattle.std.proofs.lemmas.List.{nil_from_length, take-append-drop}
 use Rattle.std.specs.Prelude.{Option}
 use Rattle.std.proofs.KnownBytes.{Appends-nil, Appends-trans}
 use Rattle.std.specs.Io.KnownBytes.{Appends}
 use borrow.Rule.Slice.PartMut.{mid_of}
-use Rattle.script.specs.Records.{lines_in}
-use Rattle.session.proofs.Callers.{moves, reached-fed, reached-start}
-use Rattle.session.specs.Calls.{Reached}
-use Rattle.session.specs.Session.{Ended, Progress, consumed, consumed_lines, fed}
+use Rattle.session.proofs.Callers.{part-whole, reached-session, reached-start}
+use Rattle.session.specs.Session.{Progress, consumed, progress_of}
+use Rattle.session.specs.declared.Session.{Session}
+use Rattle.shell.specs.Cutting.{progress-joins, reached-by}
+use Rattle.shell.specs.Turns.{Stands}
 
--- So much of a chunk was used, a text was written, and the session has come so far.
-pub record Used (p : Progress) (chunk : List ℕ) (from : ℕ) (q : Progress) (before after : Option (List ℕ)) : Type 0 where
-  pub text : List ℕ
-  pub within : from ≤ length chunk
-  pub reached : Reached p (take from chunk) text q
-  pub written : Appends before after text
+-- Some of a chunk was used and the rest is left, what is told of it was written, and the session has come so far.
+pub record Used (told : Progress → List ℕ → List ℕ) (p : Progress) (chunk rest : List ℕ) (q : Progress) (before after : Option (List ℕ)) : Type 0 where
+  pub used : List ℕ
+  pub parts : chunk ≡ used ++ rest
+  pub progress : q ≡ (consumed p used).progress
+  pub written : Appends before after (told p used)
 
-pub used-start : (p : Progress) (chunk : List ℕ) (before : Option (List ℕ)) → Used p chunk 0 p before before
-used-start p chunk before = record { text = []; within = omega arith; reached = reached-start p; written = Appends-nil before }
-
--- What is left of a chunk.
-abbrev pub left : List ℕ → ℕ → List ℕ
-left chunk from = mid_of from (length chunk - from) chunk
+pub used-start : (told : Progress → List ℕ → List ℕ) → ((p : Progress) → told p [] ≡ []) → (s : Session) (chunk : List ℕ) (before : Option (List ℕ))
+    → Used told (progress_of s) chunk chunk (progress_of s) before before
+used-start told nothing s chunk before = record {
+  used = [];
+  parts = refl;
+  progress = reached-session s (reached-start (progress_of s));
+  written = subst (λ (l : List ℕ). Appends before before l) (sym (nothing (progress_of s))) (Appends-nil before);
+}
 
 -- A piece more is used, and its text written.
-pub used-more : {p q : Progress} {before after : Option (List ℕ)} (chunk : List ℕ) (from used room : ℕ) (r : Progress) (then : Option (List ℕ))
-    → Used p chunk from q before after → used ≡ (fed q (left chunk from) room).used → used ≤ length (left chunk from) → 84 ≤ room → from < length chunk
-    → r ≡ (fed q (left chunk from) room).progress → Appends after then (fed q (left chunk from) room).text → Used p chunk (from + used) r before then
-used-more {p} {q} {before} {after} chunk from used room r then w uses within roomy inside reaches writes =
-    let piece = fed q (left chunk from) room in
+pub used-more : {p q : Progress} {before after : Option (List ℕ)} (told : Progress → List ℕ → List ℕ)
+    → ((p : Progress) (one two : List ℕ) → told p (one ++ two) ≡ told p one ++ told (consumed p one).progress two)
+    → (chunk rest : List ℕ) (n : ℕ) (r : Progress) (then : Option (List ℕ)) → Used told p chunk rest q before after
+    → r ≡ (consumed q (take n rest)).progress → Appends after then (told q (take n rest)) → Used told p chunk (mid_of n (length rest - n) rest) r before then
+used-more {p} {q} {before} {after} told joins chunk rest n r then w reaches writes =
+    let piece = take n rest in
+    let text : told p w.used ++ told q piece ≡ told p (w.used ++ piece) =
+    ap (λ (x : Progress). told p w.used ++ told x piece) w.progress ∙ sym (joins p w.used piece) in
     record {
-      text = w.text ++ piece.text;
-      within = (moves q chunk from used room uses within roomy inside).1;
-      reached = rw (reaches, uses) (reached-fed chunk from room w.reached);
-      written = Appends-trans before after then w.text piece.text w.written writes;
+      used = w.used ++ piece;
+      parts =
+          w.parts
+          ∙ ap (λ (l : List ℕ). w.used ++ l) (sym (take-append-drop n rest) ∙ ap (λ (l : List ℕ). piece ++ l) (sym (part-whole rest n)))
+          ∙ sym (append_assoc w.used piece (mid_of n (length rest - n) rest));
+      progress = reaches ∙ ap (λ (x : Progress). (consumed x piece).progress) w.progress ∙ sym (progress-joins p w.used piece);
+      written = subst (λ (l : List ℕ). Appends before then l) text (Appends-trans before after then (told p w.used) (told q piece) w.written writes);
     }
 
--- Nothing is written of no bytes.
-none : (q : Progress) → (consumed q []).text ≡ []
-unfolding consumed consumed_lines lines_in
-none q = refl
+stands : {p q : Progress} (used : List ℕ) → q ≡ (consumed p used).progress → Stands p used q
+stands used e = record { progress = e; reached = reached-by used e }
 
--- The text that was written of what was used.
-used-text : {p q : Progress} {before after : Option (List ℕ)} (chunk : List ℕ) (from : ℕ) (w : Used p chunk from q before after)
-    → w.text ≡ (consumed p (take from chunk)).text
-used-text {p} {q} chunk from w =
-    sym (
-    ap (λ (l : List ℕ). (consumed p l).text) (sym (append-nil (take from chunk)))
-    ∙ ap (λ (e : Ended). e.text) (w.reached.then [])
-    ∙ ap (λ (l : List ℕ). w.text ++ l) (none q)
-    ∙ append-nil w.text
-    )
+-- Where nothing is left, all was used, and all is written that is to be written of it.
+all : {told : Progress → List ℕ → List ℕ} {p q : Progress} {before after : Option (List ℕ)} (chunk rest : List ℕ) (w : Used told p chunk rest q before after) → length rest ≡ 0
+    → w.used ≡ chunk
+all chunk rest w none = sym (w.parts ∙ ap (λ (l : List ℕ). w.used ++ l) (nil_from_length rest none) ∙ append-nil w.used)
 
-pub used-reached : {p q : Progress} {before after : Option (List ℕ)} (chunk : List ℕ) (from : ℕ) → Used p chunk from q before after
-    → Reached p (take from chunk) (consumed p (take from chunk)).text q
-used-reached {p} {q} chunk from w = subst (λ (t : List ℕ). Reached p (take from chunk) t q) (used-text chunk from w) w.reached
+pub used-stands : {told : Progress → List ℕ → List ℕ} {p q : Progress} {before after : Option (List ℕ)} (chunk rest : List ℕ) → Used told p chunk rest q before after → length rest ≡ 0
+    → Stands p chunk q
+used-stands {told} {p} {q} chunk rest w none = subst (λ (l : List ℕ). Stands p l q) (all chunk rest w none) (stands w.used w.progress)
 
--- Where all of a chunk is used, all is written that is to be written of it.
-pub used-all : {p q : Progress} {before after : Option (List ℕ)} (chunk : List ℕ) (from : ℕ) → Used p chunk from q before after → from ≡ length chunk
-    → Appends before after (consumed p chunk).text
-used-all {p} {q} {before} {after} chunk from w all =
-    let whole : take from chunk ≡ chunk = take_all from chunk (omega arith) in
-    subst (λ (l : List ℕ). Appends before after (consumed p l).text) whole (subst (λ (t : List ℕ). Appends before after t) (used-text chunk from w) w.written)
+pub used-written : (told : Progress → List ℕ → List ℕ) {p q : Progress} {before after : Option (List ℕ)} (chunk rest : List ℕ) → Used told p chunk rest q before after → length rest ≡ 0
+    → Appends before after (told p chunk)
+used-written told {p} {q} {before} {after} chunk rest w none = subst (λ (l : List ℕ). Appends before after (told p l)) (all chunk rest w none) w.written
+
+-- Where a write fails, what is left does not count as used.
+pub used-part : {told : Progress → List ℕ → List ℕ} {p q : Progress} {before after : Option (List ℕ)} (chunk rest : List ℕ) → Used told p chunk rest q before after → 0 < length rest
+    → (length chunk - length rest < length chunk) × Stands p (take (length chunk - length rest) chunk) q
+used-part {told} {p} {q} chunk rest w some =
+    let size : length chunk ≡ length w.used + length rest = ap length w.parts ∙ length-append w.used rest in
+    let n : length w.used ≡ length chunk - length rest = omega arith in
+    let part : w.used ≡ take (length chunk - length rest) chunk =
+    sym (take-append_seam w.used rest) ∙ ap (λ (l : List ℕ). take (length w.used) l) (sym w.parts) ∙ ap (λ (m : ℕ). take m chunk) n in
+    (omega arith, subst (λ (l : List ℕ). Stands p l q) part (stands w.used w.progress))

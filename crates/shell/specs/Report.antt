@@ -1,7 +1,5 @@
 -- What is on record of the failures of a run. Assumes nothing.
 use Rattle.std.specs.Prelude.{Bool, true, false, ℕ}
-use Rattle.shell.specs.declared.Input.{Input}
-use Rattle.shell.specs.declared.Input.TheVariants as input
 use Rattle.shell.specs.declared.Outcome.{Outcome}
 use Rattle.shell.specs.declared.Outcome.TheVariants as outcome
 
@@ -10,11 +8,6 @@ abbrev pub is_done : Outcome → Bool
 is_done outcome.Done = true
 is_done outcome.Failed = false
 is_done outcome.Unread = false
-
--- A read did not fail.
-abbrev pub is_read : Input → Bool
-is_read (input.Bytes n) = true
-is_read input.Failed = false
 
 -- The status of a program, which is 0 only where nothing failed.
 abbrev pub status_of : Outcome → ℕ

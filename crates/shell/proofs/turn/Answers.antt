@@ -1,52 +1,36 @@
--- `turn` hands over the records that `feed` has put at the start of the buffer.
-use Rattle.std.proofs.Common.{rules, ℕ, length, sym, subst, ap, ◌∙◌, arith}
+-- What is written is what `feed` tells of each piece, and pieces are told one after the other.
+use Rattle.std.proofs.Common.{rules, refl, ◌≡◌, ◌∙◌, ◌<◌, false, List, ℕ, length, take, sym, subst, ap, OnOk, Ok, Err}
 use Rattle.std.specs.Io.KnownBytes.{Appends}
-use Rattle.session.proofs.Callers.{front, moves, reached-session}
-use Rattle.session.specs.Session.{fed, progress_of}
-use Rattle.shell.proofs.Using.{left, used-all, used-more, used-reached}
+use Rattle.std.specs.Prelude.{Result, is_err}
+use Rattle.shell.proofs.Using.{used-more, used-part, used-stands, used-start}
 use Rattle.shell.proofs.turn.Goals as goal
 
-pub write_records-requires : goal.write_records-requires
-write_records-requires g c =
-    let at = c.loop-from in
-    let p = progress_of at.s in
-    let rest = left c.args.chunk.now at.from in
-    let e = c.feed-fed.ensures in
-    rw e.out (front at.records (fed p rest (length at.records)).text _ e.wrote (rw e.out at e.bounds.wrote-within))
-    ∙ ap (λ (n : ℕ). (fed p rest n).text) (sym at.invariant.0)
+where_ok : {T E : Type 0} (r : Result T E) (P : Type 0) → is_err r ≡ false → OnOk r P → P
+where_ok (Ok x) P e h = h
+where_ok (Err x) P e h = cc
 
-pub loop-from-smaller : goal.loop-from-smaller
-loop-from-smaller g c =
-    let at = c.loop-from in
-    let e = c.feed-fed.ensures in
-    let moved = moves (progress_of at.s) c.args.chunk.now at.from _ (length at.records) e.used e.bounds.used-within (omega (arith, at.invariant.0)) c.loop-from-test.true in
-    omega (arith, moved)
+pub loop-rest-init : goal.loop-rest-init
+loop-rest-init g c = (refl, used-start g.T.Transcript.told g.met.T.Transcript.nothing c.args.start c.args.chunk.now _)
 
-pub loop-from-preserved : goal.loop-from-preserved
-loop-from-preserved g c =
-    let at = c.loop-from in
+pub returns-then-is_err-clause-unwritten : goal.returns-then-is_err-clause-unwritten
+returns-then-is_err-clause-unwritten g c =
+    let at = c.loop-rest in
+    let some : 0 < length at.rest.now = search rules in
+    used-part c.args.chunk.now at.rest.now at.invariant.1 some
+
+pub loop-rest-preserved : goal.loop-rest-preserved
+loop-rest-preserved g c =
+    let at = c.loop-rest in
     let e = c.feed-fed.ensures in
-    let chunk = c.args.chunk.now in
-    let room = length at.records in
     let contents = g.W.Write.contents in
-    let writes : Appends (contents at.output) (contents c.write_records.new.output) (fed (progress_of at.s) (left chunk at.from) room).text =
-    subst (λ (n : ℕ). Appends (contents at.output) (contents c.write_records.new.output) (fed (progress_of at.s) (left chunk at.from) n).text) at.invariant.0 c.if-not-write_records.ensures.written in (
-      omega (arith, at.invariant.0, c.feed-fed.auto.out),
-      used-more chunk at.from c.feed-fed.result.used room _ _ at.invariant.1 e.used e.bounds.used-within (omega (arith, at.invariant.0)) c.loop-from-test.true e.session writes,
+    let told : take c.feed-fed.result.wrote c.bytes.result.now ≡ g.T.Transcript.told _ _ = ap (take c.feed-fed.result.wrote) c.bytes.ensures ∙ e.text in
+    let writes = where_ok c.write.result _ (sym c.if-is_err.ensures.value) c.write.ensures.written in (
       search rules,
+      used-more g.T.Transcript.told g.met.T.Transcript.joins c.args.chunk.now at.rest.now c.feed-fed.result.used _ _ at.invariant.1 e.session
+          (subst (λ (l : List ℕ). Appends (contents at.output) (contents c.write.new.output) l) told writes),
     )
 
-pub returns-after-loop-from-clause-session : goal.returns-after-loop-from-clause-session
-returns-after-loop-from-clause-session g c = let at = c.loop-from in reached-session at.s at.invariant.1.reached
-
-pub returns-after-loop-from-clause-written : goal.returns-after-loop-from-clause-written
-returns-after-loop-from-clause-written g c = let at = c.loop-from in used-all c.args.chunk.now at.from at.invariant.1
-
-pub returns-then-not-write_records-clause-session : goal.returns-then-not-write_records-clause-session
-returns-then-not-write_records-clause-session g c = let at = c.loop-from in reached-session at.s at.invariant.1.reached
-
-pub returns-after-loop-from-clause-reached : goal.returns-after-loop-from-clause-reached
-returns-after-loop-from-clause-reached g c = let at = c.loop-from in used-reached c.args.chunk.now at.from at.invariant.1
-
-pub returns-then-not-write_records-clause-reached : goal.returns-then-not-write_records-clause-reached
-returns-then-not-write_records-clause-reached g c = let at = c.loop-from in used-reached c.args.chunk.now at.from at.invariant.1
+pub returns-clause-used : goal.returns-clause-used
+returns-clause-used g c =
+    let at = c.loop-rest in
+    used-stands c.args.chunk.now at.rest.now at.invariant.1 (search rules)
