@@ -3,7 +3,7 @@ use mathlib.Core.Path.{sym, ◌∙◌}
 use native.Mathlib.Omega.{arith}
 use Rattle.decimal.specs.Write.{decimal}
 use Rattle.decimal.proofs.TextRoom.{after-no-room, after-room, with-no-room, with-room}
-use Rattle.decimal.proofs.Writing.{none-stored, one-stored}
+use Rattle.decimal.proofs.Writing.{one-stored}
 use Rattle.decimal.proofs.write_long.Goals as goal
 
 pub returns-then-out-at : goal.returns-then-out-at
@@ -11,9 +11,6 @@ returns-then-out-at c = record { value = sym (after-no-room _ _ _ (omega arith))
 
 pub returns-then-out-at-2 : goal.returns-then-out-at-2
 returns-then-out-at-2 c = record { value = sym (after-no-room _ _ _ (omega arith)); out_after = sym (with-no-room _ _ _ (omega arith)) }
-
-pub loop-i-init : goal.loop-i-init
-loop-i-init c = none-stored _ _ _ _ (omega arith) c.ranges.value.fits
 
 pub loop-i-preserved : goal.loop-i-preserved
 loop-i-preserved c = one-stored _ _ _ _ _ _ c.loop-i-test.true c.loop-i.invariant
