@@ -1,12 +1,13 @@
 -- A chunk that is used piece by piece, and what is written of it. Assumes nothing.
-use Rattle.std.proofs.Common.{◌≡◌, ℕ, ◌+◌, ◌-◌, ◌<◌, List, [], ◌++◌, length, take, sym, subst, ap, ◌∙◌, refl, append_assoc, append-nil, arith, length-append}
+use Rattle.std.proofs.Common.{◌≡◌, ℕ, ◌+◌, ◌-◌, ◌<◌, ◌≤◌, List, [], ◌++◌, length, take, sym, subst, ap, ◌∙◌, refl, append_assoc, append-nil, arith, length-append}
 use Rattle.std.proofs.Math.Seq.{take-append_seam}
 use Rattle.std.proofs.lemmas.List.{nil_from_length, take-append-drop}
 use Rattle.std.specs.Prelude.{Option}
 use Rattle.std.proofs.KnownBytes.{Appends-nil, Appends-trans}
 use Rattle.std.specs.Io.KnownBytes.{Appends}
 use borrow.Rule.Slice.PartMut.{mid_of}
-use Rattle.session.proofs.Callers.{part-whole, reached-session, reached-start}
+use lib.Seq.{sets}
+use Rattle.session.proofs.Callers.{front, part-whole, reached-session, reached-start}
 use Rattle.session.specs.Session.{Progress, consumed, progress_of}
 use Rattle.session.specs.declared.Session.{Session}
 use Rattle.shell.specs.Cutting.{progress-joins, reached-by}
@@ -72,3 +73,7 @@ used-part {told} {p} {q} chunk rest w some =
     let part : w.used ≡ take (length chunk - length rest) chunk =
     sym (take-append_seam w.used rest) ∙ ap (λ (l : List ℕ). take (length w.used) l) (sym w.parts) ∙ ap (λ (m : ℕ). take m chunk) n in
     (omega arith, subst (λ (l : List ℕ). Stands p l q) part (stands w.used w.progress))
+
+-- A text that was put at the start of a buffer is taken from there.
+pub handed : (buffer new text : List ℕ) (n : ℕ) → n ≡ length text → new ≡ sets buffer 0 text → n ≤ length new → take n new ≡ text
+handed buffer new text n size put within = rw put (front buffer text n size (rw put at within))

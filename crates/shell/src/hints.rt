@@ -78,9 +78,10 @@ pub fn hint(err: Stderr, name: &[u8], before: Session, after: Session, chunk: &[
     }
 }
 
-// Gives a hint where the first line lacks its line feed, and is refused at the end of the input. An empty input gets none.
+// Gives a hint where the first line lacks its line feed, and is refused at the end of the input. An empty input gets none, nor does a session
+// that has stopped: it had its hint.
 pub fn hint_end(err: Stderr, name: &[u8], current: Session) {
-    if current.length == 0 {
+    if current.length == 0 || session::stopped(current) {
         return;
     }
     let mut record = [0u8; LONGEST_RECORD];

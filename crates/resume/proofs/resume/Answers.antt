@@ -8,10 +8,11 @@ use Rattle.std.specs.Io.KnownBytes.{Appends, Consumes, IsAtEnd}
 use Rattle.passing.proofs.ResumedSessions.{resumed-session}
 use Rattle.passing.specs.Passing.{resumed}
 use Rattle.passing.specs.PassingSessions.{opened, resumed_text}
-use Rattle.session.proofs.Callers.{front, part-whole}
+use Rattle.session.proofs.Callers.{part-whole}
 use Rattle.session.proofs.WholeListing.{finished-after}
 use Rattle.session.specs.Session.{Progress, consumed, finished, last_text, progress_of}
 use lib.Seq.{sets}
+use Rattle.shell.proofs.Using.{handed}
 use Rattle.shell.specs.Cutting.{cut-in-two}
 use Rattle.resume.proofs.resume.Goals as goal
 
@@ -84,7 +85,7 @@ module _ (bytes : List ℕ) (used : ℕ) (p : Progress) (uses : used ≡ (opened
       → Appends before then' ((opened bytes).text ++ (consumed (opened bytes).progress (script_in bytes)).text)
   begun before then then' line out wrote size put within first next =
       let f = opened bytes in
-      let answer : take wrote out ≡ f.text = rw put (front line f.text wrote size (rw put at within)) in
+      let answer : take wrote out ≡ f.text = handed line out f.text wrote size put within in
       let text : (consumed p (mid_of used (length bytes - used) bytes)).text ≡ (consumed f.progress (script_in bytes)).text =
       ap (λ (x : Progress). (consumed x (mid_of used (length bytes - used) bytes)).text) starts ∙ ap (λ (l : List ℕ). (consumed f.progress l).text) rest in
       Appends-trans before then then' f.text (consumed f.progress (script_in bytes)).text

@@ -1,8 +1,8 @@
 -- The records are what `feed` of crate `session` has put at the start of the buffer.
-use Rattle.std.proofs.Common.{◌≡◌, ◌∙◌, length, take, arith}
-use Rattle.session.proofs.Callers.{front}
+use Rattle.std.proofs.Common.{◌∙◌, length, arith}
 use Rattle.session.proofs.WholeListing.{some-used}
-use Rattle.session.specs.Session.{fed, progress_of}
+use Rattle.session.specs.Session.{progress_of}
+use Rattle.shell.proofs.Using.{handed}
 use Rattle.shell.specs.Cutting.{fed-progress, fed-text}
 use Rattle.shell.proofs.transcript.ListingTranscript.feed.Goals as goal
 
@@ -19,8 +19,4 @@ returns-clause-some c = λ any.
 pub returns-clause-text : goal.returns-clause-text
 returns-clause-text c =
     let e = c.feed.ensures in
-    let p = progress_of c.args.start in
-    let room = length c.args.self.now.records in
-    let text : take c.feed.result.wrote c.feed.new.out ≡ (fed p c.args.chunk.now room).text =
-    rw e.out (front _ (fed p c.args.chunk.now room).text _ e.wrote (rw e.out at e.bounds.wrote-within)) in
-    rw e.used (text ∙ fed-text p c.args.chunk.now room)
+    rw e.used (handed _ _ _ _ e.wrote e.out e.bounds.wrote-within ∙ fed-text (progress_of c.args.start) c.args.chunk.now (length c.args.self.now.records))
