@@ -5,7 +5,7 @@
 
 ghost use Rattle.std.specs.Prelude.{◌≡◌, ◌≤◌, [], length, take};
 ghost use Rattle.std.proofs.lemmas.List.Edits.{sets};
-ghost use Rattle.chunk.specs.Chunk.{held};
+ghost use Rattle.chunk.specs.HeldBytes.{held_bytes};
 ghost use Rattle.reason.specs.ReasonedListing.{first_reason};
 ghost use Rattle.reason.specs.Reasons.{reasoned_text};
 ghost use Rattle.reasoned.specs.ReasonedParts.{EndedWith};
@@ -24,9 +24,9 @@ mod line_reason; // a later line, with its reason
 
 // Why the first line is refused, or nothing where it is not.
 fn first_reason(start: Session) -> Reason
-    ensures { result ≡ first_reason (line_first (held start.line start.length)) }
+    ensures { result ≡ first_reason (line_first (held_bytes start.line)) }
 {
-    match chunk::parse_first(&start.line, start.length) {
+    match start.line.parse_first() {
         Ok(first) => {
             if state::fresh::admissible(first) {
                 return Reason::Nothing;
@@ -54,7 +54,7 @@ fn write_first(out: &mut [u8; LONGEST_REASONED], answer: u64, why: Reason) -> us
 // Ends the first line. The session after it is the one that ending the listing leaves.
 fn end_first(start: Session, out: &mut [u8; LONGEST_REASONED]) -> Written
     requires { start.phase ≡ phase_is.First }
-    ensures { EndedWith (first (held start.line start.length)) result out.old out.new }
+    ensures { EndedWith (first (held_bytes start.line)) result out.old out.new }
 {
     let mut record = [0u8; LONGEST_RECORD];
     let ended = session::finish(start, &mut record);
@@ -69,7 +69,7 @@ fn end_first(start: Session, out: &mut [u8; LONGEST_REASONED]) -> Written
 
 // Ends a later line.
 fn end_later(start: Session, out: &mut [u8; LONGEST_REASONED]) -> Written
-    ensures { EndedWith (later start.number (state_in start) (held start.line start.length)) result
+    ensures { EndedWith (later start.number (state_in start) (held_bytes start.line)) result
         out.old out.new }
 {
     let number = start.number;
@@ -77,8 +77,7 @@ fn end_later(start: Session, out: &mut [u8; LONGEST_REASONED]) -> Written
     let mut parts = start.parts;
     let mut words = start.words;
     let lent = session::lent_words(&words, start.lent);
-    let size = chunk::held_length(&start.line, start.length);
-    let parsed = script::parse(&start.line[..size]);
+    let parsed = script::parse(start.line.bytes());
     let told = tell(
         start.setup,
         &mut parts,
@@ -140,8 +139,7 @@ pub fn finish(start: Session, out: &mut [u8; LONGEST_REASONED]) -> usize
     ensures out { out.new ≡ sets out.old 0 (last_told (progress_of start)) }
     ensures bounds { Bounds 0 result [] out.new }
 {
-    let held = chunk::held_length(&start.line, start.length);
-    if held == 0 {
+    if start.line.len() == 0 {
         return finish_empty(start, out);
     }
     let ended = end_line(start, out);
@@ -150,7 +148,7 @@ pub fn finish(start: Session, out: &mut [u8; LONGEST_REASONED]) -> usize
 
 // The same where the session holds no bytes of a line.
 fn finish_empty(start: Session, out: &mut [u8; LONGEST_REASONED]) -> usize
-    requires { held start.line start.length ≡ [] }
+    requires { held_bytes start.line ≡ [] }
     ensures value { result ≡ length (last_told (progress_of start)) }
     ensures out_after { out.new ≡ sets out.old 0 (last_told (progress_of start)) }
     ensures upper_bound { result ≤ length out.new }

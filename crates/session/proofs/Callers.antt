@@ -50,10 +50,10 @@ kept-session : (s : Session) → kept (progress_of s) ≡ progress_of s
 kept-session s = go s.phase
   where
     line : List ℕ
-    line = held s.line s.length
+    line = held s.line.buffer s.line.length
 
     short : take kept_bytes line ≡ line
-    short = take_all kept_bytes line (omega (arith, length-take (min s.length kept_bytes) s.line))
+    short = take_all kept_bytes line (omega (arith, length-take (min s.line.length kept_bytes) s.line.buffer))
 
     go : (p : Phase) → kept (progress_in p s.number (state_in s) line) ≡ progress_in p s.number (state_in s) line
     go phase.First = ap first short

@@ -2,7 +2,8 @@
 -- ends are answered, and what is left of the chunk is kept as the beginning of the next line. Assumes nothing.
 use Rattle.std.specs.Prelude.{◌≡◌, ℕ, suc, ◌+◌, ◌-◌, ◌≤◌, min, Bool, true, false, cond, List, [], ◌∷◌, ◌++◌, length, take, ◌==◌, nat_lt, None, Option, Some}
 use Rattle.model.specs.State.{State}
-use Rattle.chunk.specs.Chunk.{held, kept_bytes}
+use Rattle.chunk.specs.Chunk.{kept_bytes}
+use Rattle.chunk.specs.HeldBytes.{held_bytes}
 use Rattle.script.specs.EventForms.{line_event}
 use Rattle.script.specs.First.{line_first}
 use Rattle.state.specs.Lent.{state_of}
@@ -38,7 +39,7 @@ state_in s = state_of s.setup s.parts (lent_of s.words s.lent)
 
 -- What a session stands for. The buffer beyond the bytes of the line, and the words beyond those of the pages, are no part of it.
 abbrev pub progress_of : Session → Progress
-progress_of s = progress_in s.phase s.number (state_in s) (held s.line s.length)
+progress_of s = progress_in s.phase s.number (state_in s) (held_bytes s.line)
 
 -- Nothing is read after a refused first line.
 abbrev pub is_stopped : Progress → Bool

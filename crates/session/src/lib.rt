@@ -8,6 +8,7 @@ ghost use Rattle.session.specs.Session.{Bounds, fed, first, is_stopped, last_end
 ghost use Rattle.session.specs.Session.{progress_of, stopped as stopped_session};
 ghost use Rattle.state.specs.Lent.{state_of};
 
+use chunk::HeldLine;
 use model::machine::Setup;
 use state::parts::Parts;
 
@@ -35,9 +36,8 @@ pub struct Session {
     pub phase: Phase,
     // The number of the line that comes next.
     pub number: u64,
-    // The beginning of a line that goes on in the next chunk: the first `length` bytes of the buffer.
-    pub length: usize,
-    pub line: [u8; chunk::KEPT_BYTES],
+    // The beginning of a line that goes on in the next chunk.
+    pub line: HeldLine,
     // The machine in its parts: what stays the same, and what it holds of levels, masks and processors.
     pub setup: Setup,
     pub parts: Parts,
@@ -86,8 +86,7 @@ pub fn on_machine(
     Session {
         phase: Phase::Later,
         number: 1,
-        length: 0,
-        line: [0; chunk::KEPT_BYTES],
+        line: HeldLine::new(),
         setup,
         parts,
         lent: setup.pages as usize,
@@ -131,7 +130,7 @@ pub fn feed(start: Session, chunk: &[u8], out: &mut [u8]) -> Fed
             wrote: 0,
         };
     }
-    if lines::is_later(start.phase) & (start.length == 0) {
+    if lines::is_later(start.phase) & (start.line.length == 0) {
         return lines::feed_later(start, chunk, 0, out, 0);
     }
     let end = chunk::line_end(chunk, 0);
@@ -169,8 +168,7 @@ pub fn finish(session: Session, out: &mut [u8; LONGEST_RECORD]) -> Written
     ensures out { out.new ≡ sets out.old 0 (last_text (progress_of session)) }
     ensures bounds { Bounds 0 result.wrote [] out.new }
 {
-    let held = chunk::held_length(&session.line, session.length);
-    if lines::is_later(session.phase) & (held == 0) {
+    if lines::is_later(session.phase) & (session.line.len() == 0) {
         return Written { session, wrote: 0 };
     }
     let buffer: &mut [u8] = out;

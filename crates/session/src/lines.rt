@@ -5,12 +5,13 @@ ghost use Rattle.state.specs.Lent.{state_of};
 ghost use Rattle.session.specs.SessionParts.{EndedBy, FedFrom, blank_in, has_stopped, is_later};
 ghost use Rattle.session.specs.Session.{begun, ended, extended, fed, first, kept, later, lent_of};
 ghost use Rattle.session.specs.Session.{progress_in, progress_of, state_in};
-ghost use Rattle.chunk.specs.Chunk.{held};
+ghost use Rattle.chunk.specs.HeldBytes.{held_bytes};
 ghost use Rattle.script.specs.ListingLine.{listing_line, longest_record};
 ghost use Rattle.std.proofs.lemmas.List.Edits.{sets};
 
 use crate::line_answer::answer_line;
 use crate::{Fed, LONGEST_RECORD, Phase, Session, Written, lent_words, listing_record};
+use chunk::HeldLine;
 use listing::Shown;
 use model::machine::FirstLine;
 use model::quantity::Level;
@@ -40,8 +41,7 @@ fn opened(phase: Phase, number: u64, first: FirstLine, lent: usize) -> Session
     Session {
         phase,
         number,
-        length: 0,
-        line: [0; chunk::KEPT_BYTES],
+        line: HeldLine::new(),
         setup: fresh::setup_of(first),
         parts: Parts {
             levels: fresh::fresh_levels(),
@@ -81,7 +81,7 @@ pub fn after_line(
     Session {
         phase: Phase::Later,
         number,
-        length: 0,
+        line: HeldLine::new(),
         parts,
         words,
         ..start
@@ -93,8 +93,7 @@ pub fn keep(start: Session, more: &[u8]) -> Session
     ensures { progress_of result ≡ kept (extended (progress_of start) more.now) }
 {
     let mut session = start;
-    let length = session.length;
-    session.length = chunk::append(&mut session.line, length, more);
+    session.line.append(more);
     session
 }
 
@@ -136,10 +135,10 @@ fn begin(first: FirstLine, out: &mut [u8]) -> Written
 // Ends the first line.
 fn end_first(start: Session, out: &mut [u8]) -> Written
     requires { longest_record ≤ length out.old }
-    ensures { EndedBy (ended (first (held start.line start.length))) result
+    ensures { EndedBy (ended (first (held_bytes start.line))) result
         out.old out.new }
 {
-    let Ok(first) = chunk::parse_first(&start.line, start.length) else {
+    let Ok(first) = start.line.parse_first() else {
         return refuse_first(out);
     };
     if !state::fresh::admissible(first) {
@@ -151,7 +150,7 @@ fn end_first(start: Session, out: &mut [u8]) -> Written
 // Ends a later line.
 fn end_later(start: Session, out: &mut [u8]) -> Written
     requires { longest_record ≤ length out.old }
-    ensures { EndedBy (ended (later start.number (state_in start) (held start.line start.length))) result
+    ensures { EndedBy (ended (later start.number (state_in start) (held_bytes start.line))) result
         out.old out.new }
 {
     let number = start.number;
@@ -161,13 +160,12 @@ fn end_later(start: Session, out: &mut [u8]) -> Written
     let mut words = start.words;
     let lent = lent_words(&words, start.lent);
     let formed = well_formed(setup, &parts, &words[..lent]);
-    let size = chunk::held_length(&start.line, start.length);
     let shown = answer_line(
         formed,
         setup,
         &mut parts,
         &mut words[..lent],
-        &start.line[..size],
+        start.line.bytes(),
     );
     let wrote = listing_record::write_record(out, 0, listing_record::line_number(number), shown);
     let session = after_line(start, next, parts, words);

@@ -1,6 +1,5 @@
 // A hint on standard error where the first line of an input is refused: what is wrong with its form. It is an aid for whoever wrote the
 // line. Standard output says the same with it and without it, and no contract speaks of it.
-use chunk::KEPT_BYTES;
 use session::{LONGEST_RECORD, Session};
 use std::io::{Print, Stderr};
 
@@ -65,10 +64,10 @@ pub fn say(err: Stderr, name: &[u8], text: &[u8]) {
 
 // The hint for a first line that begins with what a session has kept of it, and goes on with these bytes.
 fn hint_line(err: Stderr, name: &[u8], before: Session, more: &[u8]) {
-    let mut line: [u8; KEPT_BYTES] = before.line;
-    let held = chunk::append(&mut line, before.length, more);
-    chunk::append(&mut line, held, b"\n");
-    say(err, name, Fault::of(&line, FEWEST_TABS).text());
+    let mut line = before.line;
+    line.append(more);
+    line.append(b"\n");
+    say(err, name, Fault::of(line.bytes(), FEWEST_TABS).text());
 }
 
 // Gives a hint where the first line was refused in this chunk.
@@ -81,7 +80,7 @@ pub fn hint(err: Stderr, name: &[u8], before: Session, after: Session, chunk: &[
 // Gives a hint where the first line lacks its line feed, and is refused at the end of the input. An empty input gets none, nor does a session
 // that has stopped: it had its hint.
 pub fn hint_end(err: Stderr, name: &[u8], current: Session) {
-    if current.length == 0 || session::stopped(current) {
+    if current.line.len() == 0 || session::stopped(current) {
         return;
     }
     let mut record = [0u8; LONGEST_RECORD];

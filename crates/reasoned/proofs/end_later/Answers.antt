@@ -7,12 +7,6 @@ use Rattle.session.proofs.Ending.{words_back}
 use Rattle.state.specs.Lent.{lent}
 use Rattle.reasoned.proofs.end_later.Goals as goal
 
--- The bytes of the line that are held.
-pub slice_bounds-parse-end : goal.slice_bounds-parse-end
-slice_bounds-parse-end c =
-    let s = c.args.start in
-    sym (length-take-le _ _ (held-within s.line s.length _ c.held_length-size.ensures))
-
 pub slice_bounds-tell-end : goal.slice_bounds-tell-end
 slice_bounds-tell-end c = sym (length-take-le _ _ (omega (arith, c.lent_words-lent.ensures)))
 
@@ -20,10 +14,10 @@ pub returns : goal.returns
 returns c =
     let a = c.args in
     let w = c.tell-told.ensures in
-    let line = take c.held_length-size.result a.start.line in
+    let line = c.bytes.result.now in
     let s = lent a.start.setup a.start.parts.levels a.start.parts.masks c.args.start.parts.vps (take c.lent_words-lent.result a.start.words) in
     let text = later-text a.start.number s line _ _ _ c.parse-parsed.ensures w.shown w.why in
-    rw (← c.lent_words-lent.ensures.number, ← held-taken a.start.line a.start.length _ c.held_length-size.ensures)
+    rw (← c.lent_words-lent.ensures.number, ← c.bytes.ensures)
     (record {
       progress =
           c.after_line-session.ensures

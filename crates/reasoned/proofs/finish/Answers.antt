@@ -8,15 +8,15 @@ use Rattle.reasoned.proofs.finish.Goals as goal
 
 pub finish_empty-requires : goal.finish_empty-requires
 finish_empty-requires c =
-    none-long _ (sym c.held_length-held.ensures ∙ c.if-held-eq0.true)
+    none-long _ (sym c.len.ensures ∙ c.if-len-eq0.true)
 
-pub returns-then-held-eq0 : goal.returns-then-held-eq0
-returns-then-held-eq0 c = let w = c.finish_empty.ensures in record { wrote = w.value; out = w.out_after; bounds = bounds 0 _ _ _ (omega arith) w.upper_bound }
+pub returns-then-len-eq0 : goal.returns-then-len-eq0
+returns-then-len-eq0 c = let w = c.finish_empty.ensures in record { wrote = w.value; out = w.out_after; bounds = bounds 0 _ _ _ (omega arith) w.upper_bound }
 
 pub returns : goal.returns
 returns c =
     let a = c.args in
     let s = a.start in
     let e = c.end_line-ended.ensures in
-    let text = last_line s.phase s.number (state_in s) (held s.line s.length) (λ z. c.if-held-eq0.false (c.held_length-held.ensures ∙ z)) in
+    let text = last_line s.phase s.number (state_in s) (held s.line.buffer s.line.length) (λ z. c.if-len-eq0.false (c.len.ensures ∙ z)) in
     record { wrote = e.wrote ∙ ap length (sym text); out = e.written ∙ ap (λ (l : List ℕ). sets a.out.now 0 l) (sym text); bounds = bounds 0 _ _ _ (omega arith) e.within }

@@ -5,4 +5,4 @@ use Rattle.session.proofs.on_machine.Goals as goal
 
 pub returns : goal.returns
 unfolding machine_of
-returns c = refl
+returns c = rw c.new.ensures

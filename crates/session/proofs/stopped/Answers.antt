@@ -8,4 +8,4 @@ use Rattle.session.proofs.stopped.Goals as goal
 pub returns : goal.returns
 returns c =
     let s = c.args.session in
-    c.has_stopped.ensures ∙ phase-stopped s.phase s.number (state_in s) (held s.line s.length)
+    c.has_stopped.ensures ∙ phase-stopped s.phase s.number (state_in s) (held s.line.buffer s.line.length)

@@ -14,9 +14,6 @@ slice_bounds-well_formed-end c = sym (length-take-le _ _ (omega (arith, c.lent_w
 pub slice_bounds-answer_line-end : goal.slice_bounds-answer_line-end
 slice_bounds-answer_line-end c = sym (length-take-le _ _ (omega (arith, c.lent_words-lent.ensures)))
 
-pub slice_bounds-answer_line-end-2 : goal.slice_bounds-answer_line-end-2
-slice_bounds-answer_line-end-2 c = sym (length-take-le _ _ (held-within c.args.start.line c.args.start.length _ c.held_length-size.ensures))
-
 pub write_record-wrote-requires : goal.write_record-wrote-requires
 write_record-wrote-requires c = record { longest_record_in_bounds = omega (arith, c.requires); numbered = own-number c.line_number.ensures }
 
@@ -26,10 +23,9 @@ returns c =
     let written = rw c.line_number.ensures.number at c.write_record-wrote.ensures in
     let words = c.lent_words-lent in
     let a = c.args in
-    let size = c.held_length-size in
     let s = lent a.start.setup a.start.parts.levels a.start.parts.masks a.start.parts.vps (take words.result a.start.words) in
-    let e = ended_by a.start.number s _ (take size.result a.start.line) _ w.ensures.next (ap (shown_text a.start.number) w.ensures.shown) in
-    rw (← words.ensures.number, ← held-taken a.start.line a.start.length _ size.ensures)
+    let e = ended_by a.start.number s _ c.bytes.result.now _ w.ensures.next (ap (shown_text a.start.number) w.ensures.shown) in
+    rw (← words.ensures.number, ← c.bytes.ensures)
     (record {
       progress =
           c.after_line-session.ensures

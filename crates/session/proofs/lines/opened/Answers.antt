@@ -6,4 +6,4 @@ use Rattle.std.proofs.Common.{replicate, refl, ap}
 use Rattle.session.proofs.lines.opened.Goals as goal
 
 pub returns : goal.returns
-returns c = record { progress = refl; state = ap (λ (m : Machine). record { machine = m; words = lent_of (replicate 64 0) c.args.lent }) (fresh-machine _ _ _ _ _ c.setup_of.ensures c.fresh_levels.ensures c.fresh_masks.ensures c.fresh_record.ensures) }
+returns c = record { progress = rw c.new.ensures; state = ap (λ (m : Machine). record { machine = m; words = lent_of (replicate 64 0) c.args.lent }) (fresh-machine _ _ _ _ _ c.setup_of.ensures c.fresh_levels.ensures c.fresh_masks.ensures c.fresh_record.ensures) }
