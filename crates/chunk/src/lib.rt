@@ -28,32 +28,6 @@ pub fn line_end(chunk: &[u8], start: usize) -> usize
     find_far_byte(chunk, start, b'\n')
 }
 
-// Puts more bytes after the first `length` of a line, as far as there is room, and returns how many it then has. What the buffer holds
-// beyond them is no part of a line, and nothing is promised of it.
-pub fn append(line: &mut [u8; KEPT_BYTES], length: usize, more: &[u8]) -> usize
-    ensures { held line.new result
-        ≡ take kept_bytes (held line.old length ++ more.now) }
-{
-    let at = length.min(KEPT_BYTES);
-    let count = more.len().min(KEPT_BYTES - at);
-    line[at..at + count].copy_from_slice(&more[..count]);
-    at + count
-}
-
-// How many bytes of a line are in the buffer.
-pub fn held_length(line: &[u8; KEPT_BYTES], length: usize) -> usize
-    ensures { result ≡ ListN.length (held line.now length) }
-{
-    length.min(line.len())
-}
-
-// What the first line says.
-pub fn parse_first(line: &[u8; KEPT_BYTES], length: usize) -> Result<FirstLine, Refusal>
-    ensures { result ≡ line_first (held line.now length) }
-{
-    script::parse_first(&line[..length.min(KEPT_BYTES)])
-}
-
 // The beginning of a line that goes on in the next chunk: the first `length` bytes of a buffer.
 #[derive(Clone, Copy)]
 pub struct HeldLine {
@@ -83,14 +57,17 @@ impl HeldLine {
     pub fn len(&self) -> usize
         ensures { result ≡ length (held_bytes self.now) }
     {
-        held_length(&self.buffer, self.length)
+        self.length.min(KEPT_BYTES)
     }
 
-    // Holds more bytes, as far as there is room.
+    // Holds more bytes, as far as there is room. What the buffer has beyond them is no part of the line, and nothing is promised of it.
     pub fn append(&mut self, more: &[u8])
         ensures { held_bytes self.new ≡ take kept_bytes (held_bytes self.old ++ more.now) }
     {
-        self.length = append(&mut self.buffer, self.length, more);
+        let at = self.length.min(KEPT_BYTES);
+        let count = more.len().min(KEPT_BYTES - at);
+        self.buffer[at..at + count].copy_from_slice(&more[..count]);
+        self.length = at + count;
     }
 
     // What the bytes say as a first line.
