@@ -61,14 +61,11 @@ pub fn begins(line: &[u8], name: &[u8]) -> bool
 fn pick(line: &[u8], name: &[u8], word: Word, takes: usize) -> Option<Named>
     ensures { result ≡ cond (begun line.now name.now) (named word (length name.now) takes) None }
 {
-    if begins(line, name) {
-        return Some(Named {
-            word,
-            end: name.len(),
-            takes,
-        });
-    }
-    None
+    begins(line, name).then_some(Named {
+        word,
+        end: name.len(),
+        takes,
+    })
 }
 
 // The same of a word of an event that a level makes.
