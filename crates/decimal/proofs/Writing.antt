@@ -1,6 +1,6 @@
 -- Laws of the writer's loop, which stores the digits of a number from the last to the first.
 -- They keep its invariant, `Writing`, and say what the buffer holds at its end. Assumes nothing.
-use Prim.Native.Nat.{ℕ, suc, ◌+◌, ◌-◌, ◌/◌, ◌≤◌, ◌<◌, ◌^◌}
+use Prim.Native.Nat.{ℕ, suc, ◌+◌, ◌-◌, ◌*◌, ◌/◌, ◌≤◌, ◌<◌, ◌^◌}
 use mathlib.Core.Path.{◌≡◌, refl, sym, ap, ◌∙◌}
 use mathlib.Core.List.{List, [], ◌∷◌}
 use native.Mathlib.Omega.{arith}
@@ -8,6 +8,10 @@ use lib.ListN.{length, set}
 use lib.Seq.{length-sets, set_comm, sets}
 use Rattle.decimal.specs.Write.{decimal, digits_before, last_byte}
 use Rattle.decimal.proofs.Digits.{last-digit, one-digit, some-digit}
+
+-- The last digit is what a number is above ten times its tenth.
+pub above-tens : (n : ℕ) → 48 + (n - n / 10 * 10) ≡ last_byte n
+above-tens n = omega arith
 
 -- A store in front of a run of stores.
 pub set-sets : (l : List ℕ) (i j a : ℕ) (vs : List ℕ) → i < j → set (sets l j vs) i a ≡ sets (set l i a) j vs
@@ -76,10 +80,10 @@ none-stored buffer at value i e fits = record {
 
 -- One digit more.
 pub one-stored : (buffer : List ℕ) (at value : ℕ) (out : List ℕ) (i rest : ℕ) → at < i → Stored buffer at value out i rest
-    → Stored buffer at value (set out (i - 1) (last_byte rest)) (i - 1) (rest / 10)
+    → Stored buffer at value (set out (i - 1) (48 + (rest - rest / 10 * 10))) (i - 1) (rest / 10)
 one-stored buffer at value out i rest h s =
     let w = s.left h in
-    record {
+    rw (above-tens rest) (record {
       left = λ k. digit-put w (grind (arith, one-left w));
       whole = λ k. text-put w (grind (arith, more-left w));
-    }
+    })

@@ -73,8 +73,10 @@ fn write_long(out: &mut [u8], at: usize, value: u64) -> usize
     let end = at + count;
     let mut rest = value;
     for i in (at..end).rev() {
-        out[i] = b'0' + (rest % 10) as u8;
-        rest /= 10;
+        // `rest % 10` would take more work.
+        let tenth = rest / 10;
+        out[i] = b'0' + (rest - tenth * 10) as u8;
+        rest = tenth;
     }
     end
 }

@@ -37,9 +37,10 @@ fn first_takes(line: &[u8]) -> usize
     ensures { result ≡ (first_form (eqb (length (fields_after line.now 3)) 6)).count }
 {
     if fields::count_after(line, 3) == 6 {
-        return 6;
+        6
+    } else {
+        5
     }
-    5
 }
 
 // What the first line says, or why it says nothing. Without a seventh field SMEP is not available.

@@ -4,6 +4,8 @@ ghost use Rattle.script.specs.Bytes.{begun};
 ghost use Rattle.script.specs.EventWords.{named, named_among, words, words_with_c};
 ghost use Rattle.script.specs.declared.words.Word.TheVariants.{Made};
 
+use ActionWord::*;
+
 // The words of the events that a level makes.
 #[derive(Clone, Copy)]
 pub enum ActionWord {
@@ -59,14 +61,11 @@ pub fn begins(line: &[u8], name: &[u8]) -> bool
 fn pick(line: &[u8], name: &[u8], word: Word, takes: usize) -> Option<Named>
     ensures { result ≡ cond (begun line.now name.now) (named word (length name.now) takes) None }
 {
-    if begins(line, name) {
-        return Some(Named {
-            word,
-            end: name.len(),
-            takes,
-        });
-    }
-    None
+    begins(line, name).then_some(Named {
+        word,
+        end: name.len(),
+        takes,
+    })
 }
 
 // The same of a word of an event that a level makes.
@@ -81,15 +80,10 @@ fn word_with_c(line: &[u8]) -> Option<Named>
     ensures { result ≡ named_among words_with_c line.now }
 {
     match *line.get(1)? {
-        b'r' => made(line, b"cri", ActionWord::Cri, 3).or_else(|| made(
-            line,
-            b"crm",
-            ActionWord::Crm,
-            4,
-        )),
-        _ => made(line, b"call", ActionWord::Call, 3)
-            .or_else(|| made(line, b"config", ActionWord::Config, 4))
-            .or_else(|| made(line, b"caps", ActionWord::Caps, 2)),
+        b'r' => made(line, b"cri", Cri, 3).or_else(|| made(line, b"crm", Crm, 4)),
+        _ => made(line, b"call", Call, 3)
+            .or_else(|| made(line, b"config", Config, 4))
+            .or_else(|| made(line, b"caps", Caps, 2)),
     }
 }
 
@@ -98,39 +92,19 @@ pub fn word_of(line: &[u8]) -> Option<Named>
     ensures { result ≡ named_among words line.now }
 {
     match *line.first()? {
-        b'a' => made(line, b"ack", ActionWord::Ack, 2),
+        b'a' => made(line, b"ack", Ack, 2),
         b'c' => word_with_c(line),
-        b'e' => made(line, b"enpart", ActionWord::Enpart, 4).or_else(|| made(
-            line,
-            b"envp",
-            ActionWord::Envp,
-            7,
-        )),
-        b'f' => made(line, b"fetch", ActionWord::Fetch, 3).or_else(|| made(
-            line,
-            b"flush",
-            ActionWord::Flush,
-            2,
-        )),
+        b'e' => made(line, b"enpart", Enpart, 4).or_else(|| made(line, b"envp", Envp, 7)),
+        b'f' => made(line, b"fetch", Fetch, 3).or_else(|| made(line, b"flush", Flush, 2)),
         b'i' => pick(line, b"int", Word::Interrupt, 3),
-        b'p' => made(line, b"protect", ActionWord::Protect, 4).or_else(|| made(
-            line,
-            b"pstat",
-            ActionWord::Pstat,
-            2,
-        )),
-        b'r' => made(line, b"ret", ActionWord::Ret, 3)
-            .or_else(|| made(line, b"read", ActionWord::Read, 3))
-            .or_else(|| made(line, b"rreg", ActionWord::Rreg, 4)),
-        b's' => made(line, b"secure", ActionWord::Secure, 4),
-        b't' => made(line, b"tpr", ActionWord::Tpr, 3),
-        b'v' => made(line, b"vstat", ActionWord::Vstat, 2),
-        b'w' => made(line, b"write", ActionWord::Write, 4).or_else(|| made(
-            line,
-            b"wreg",
-            ActionWord::Wreg,
-            5,
-        )),
+        b'p' => made(line, b"protect", Protect, 4).or_else(|| made(line, b"pstat", Pstat, 2)),
+        b'r' => made(line, b"ret", Ret, 3)
+            .or_else(|| made(line, b"read", Read, 3))
+            .or_else(|| made(line, b"rreg", Rreg, 4)),
+        b's' => made(line, b"secure", Secure, 4),
+        b't' => made(line, b"tpr", Tpr, 3),
+        b'v' => made(line, b"vstat", Vstat, 2),
+        b'w' => made(line, b"write", Write, 4).or_else(|| made(line, b"wreg", Wreg, 5)),
         _ => None,
     }
 }

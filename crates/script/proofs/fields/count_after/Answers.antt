@@ -10,12 +10,8 @@ use mathlib.Core.Path.{ap, ◌∙◌}
 use Rattle.std.specs.Slice.Iter.{iter_rest}
 use Prim.Native.Nat.{◌+◌}
 use Rattle.script.specs.LineForms.{tab}
-use Rattle.script.proofs.FieldPlaces.{no_field}
 use Rattle.script.proofs.NumberReading.{counted-after}
 use Rattle.script.proofs.fields.count_after.Goals as goal
-
-pub returns-then-line-from : goal.returns-then-line-from
-returns-then-line-from c = rw (no_field _ _ c.if-line-from.true)
 
 pub returns : goal.returns
 returns c =
