@@ -36,6 +36,10 @@ module _ (byte : ℕ) (bytes : List ℕ) (i : ℕ) where
   unfolding until_byte
   at-end h = rw (drop_of_length-le bytes h) (add-zero i)
 
+pub past_next : (byte : ℕ) (bytes : List ℕ) (i j : ℕ) → j ≡ i + 1 → i < length bytes → (get_or bytes i 0 ≡ byte → ⊥)
+    → byte_at byte bytes i ≡ byte_at byte bytes j
+past_next byte bytes i j e h d = rw e (past-byte byte bytes i h d)
+
 pub until-within : (byte : ℕ) (bytes : List ℕ) → until_byte byte bytes ≤ length bytes
 unfolding until_byte
 until-within byte [] = omega arith

@@ -3,7 +3,6 @@
 pub mod StoredTexts  -- texts and numbers stored one after another
 pub mod Same  -- words that are compared
 pub mod FieldPlaces  -- where the fields of a line stand
-pub mod ByteSearch  -- a byte found from a place on
 pub mod NumberReading  -- the numbers of a line, read into a row
 pub mod Naming  -- the word that a line begins with
 pub mod Saying  -- what a line says, by the row of its numbers

@@ -1,11 +1,8 @@
 // The search for a byte: a tab that ends a field, or a line feed that ends a line. Every public function takes any arguments.
-ghost use Rattle.std.specs.Prelude.{◌≡◌};
+ghost use Rattle.std.specs.Prelude.{cond, ◌≡◌, ◌+◌, ◌≤◌, ltb, length};
 ghost use Rattle.script.specs.Search.{byte_at};
 
-use memchr::memchr;
-
 // Where `byte` next stands from `start` on, or the end of the bytes. A place past the end is answered as it is.
-// Most fields are too short for a search of many bytes at once to pay.
 pub fn find_byte(bytes: &[u8], start: usize, byte: u8) -> usize
     ensures { result ≡ byte_at byte bytes.now start }
 {
@@ -17,10 +14,43 @@ pub fn find_byte(bytes: &[u8], start: usize, byte: u8) -> usize
     start.max(bytes.len())
 }
 
-// The same as `find_byte`, for a byte that stands far from `start`: many bytes are looked at in one turn.
+// How many of the four bytes from `start` on stand before `byte`.
+fn bytes_before(bytes: &[u8], start: usize, byte: u8) -> usize
+    requires { start + 4 ≤ length bytes.now }
+    ensures { byte_at byte bytes.now start
+        ≡ cond (ltb result 4) (start + result) (byte_at byte bytes.now (start + 4)) }
+{
+    if bytes[start] == byte {
+        return 0;
+    }
+    if bytes[start + 1] == byte {
+        return 1;
+    }
+    if bytes[start + 2] == byte {
+        return 2;
+    }
+    if bytes[start + 3] == byte {
+        return 3;
+    }
+    4
+}
+
+// The same as `find_byte`, for a byte that stands far from `start`: four bytes are looked at a turn, so that a byte costs half. One at a time,
+// by `position` too, misses that speed; the kit has a faster search, which would be one more library to trust.
 pub fn find_far_byte(bytes: &[u8], start: usize, byte: u8) -> usize
     ensures { result ≡ byte_at byte bytes.now start }
 {
-    let rest = bytes.get(start..).unwrap_or(&[]);
-    start + memchr(byte, rest).unwrap_or(rest.len())
+    let mut i = start;
+    if bytes.len() < 4 {
+        return find_byte(bytes, i, byte);
+    }
+    let last = bytes.len() - 4;
+    while i <= last {
+        let passed = bytes_before(bytes, i, byte);
+        if passed < 4 {
+            return i + passed;
+        }
+        i += 4;
+    }
+    find_byte(bytes, i, byte)
 }
