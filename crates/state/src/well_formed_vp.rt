@@ -12,7 +12,7 @@ ghost use Rattle.processor.specs.Record.{level_words, vp_of, word_in};
 ghost use Rattle.state.specs.SecureWord.{well_configured};
 
 use model::machine::{BY_INTERRUPT, Control, Shape};
-use model::quantity::{FIRST_VECTOR, HIGHEST_CLASS, Level};
+use model::quantity::{FIRST_VECTOR, HIGHEST_CLASS, LEVEL_COUNT, Level};
 use model::register::{CR0, PROTECTED_BIT};
 use model::set::is_level;
 use partition::config::secure_reserved_set;
@@ -26,6 +26,9 @@ use processor::watch::{intercept_reserved_set, watch_of};
 use word::field::{has_bit, take};
 use word::register_word::RegisterWord;
 use word::registers::SecureConfig;
+
+// The words of pending vectors of a level.
+const PENDING_WORDS: u64 = 4;
 
 // The word at an offset in a level's row; 0 beyond M.
 fn row_word(shape: Shape, vp: &Record, level: Level, offset: u64) -> u64
@@ -85,11 +88,7 @@ fn none_pending(shape: Shape, vp: &Record, level: Level) -> bool
     ensures { let words = (context shape (vp_of vp.now) level.0).pending in
         result ≡ every 4 (λ i. eqb (number_at 4 words i) 0) }
 {
-    let zero = row_word(shape, vp, level, record::PENDING) == 0;
-    let one = row_word(shape, vp, level, record::PENDING + 1) == 0;
-    let two = row_word(shape, vp, level, record::PENDING + 2) == 0;
-    let three = row_word(shape, vp, level, record::PENDING + 3) == 0;
-    zero & one & two & three
+    (0..PENDING_WORDS).all(|i| row_word(shape, vp, level, record::PENDING + i) == 0)
 }
 
 // Is what a processor holds of a level well formed?
@@ -129,11 +128,9 @@ pub fn well_formed_vp(shape: Shape, levels: &Levels, vp: &Record) -> bool
 {
     let lowest = record::enabled_at(shape, vp, Level(0));
     let active = record::enabled_at(shape, vp, record::active_of(vp));
-    let zero = well_formed_context(shape, levels, vp, Level(0));
-    let one = well_formed_context(shape, levels, vp, Level(1));
-    let two = well_formed_context(shape, levels, vp, Level(2));
-    let three = well_formed_context(shape, levels, vp, Level(3));
-    lowest & active & (zero & one & two & three)
+    let formed =
+        (0..LEVEL_COUNT).all(|number| well_formed_context(shape, levels, vp, Level(number)));
+    lowest & active & formed
 }
 
 // Is a level not enabled, or not in real mode?
@@ -150,8 +147,5 @@ fn well_moded(shape: Shape, vp: &Record, level: Level) -> bool
 pub fn well_moded_vp(shape: Shape, vp: &Record) -> bool
     ensures { result ≡ well_moded_vp shape (vp_of vp.now) }
 {
-    let one = well_moded(shape, vp, Level(1));
-    let two = well_moded(shape, vp, Level(2));
-    let three = well_moded(shape, vp, Level(3));
-    one & two & three
+    (1..LEVEL_COUNT).all(|number| well_moded(shape, vp, Level(number)))
 }

@@ -65,11 +65,7 @@ fn locked(setup: Setup, vps: &[Record; 4], level: Level) -> bool
     ensures { ((levels masks words : List ℕ)
         → locked_for (lent setup levels masks vps.now words) level.0 ≡ result) }
 {
-    let zeroth = lock_at(0 < setup.processors, setup.shape, &vps[0], level);
-    let first = lock_at(1 < setup.processors, setup.shape, &vps[1], level);
-    let second = lock_at(2 < setup.processors, setup.shape, &vps[2], level);
-    let third = lock_at(3 < setup.processors, setup.shape, &vps[3], level);
-    zeroth | first | second | third
+    (0..4).any(|v| lock_at((v as u64) < setup.processors, setup.shape, &vps[v], level))
 }
 
 // Is the level enabled on the processor with that record, if there is one?
@@ -85,11 +81,7 @@ fn enabled_anywhere(setup: Setup, vps: &[Record; 4], level: Level) -> bool
     ensures { ((levels masks words : List ℕ)
         → enabled_anywhere (lent setup levels masks vps.now words) level.0 ≡ result) }
 {
-    let zeroth = enabled_there(0 < setup.processors, setup.shape, &vps[0], level);
-    let first = enabled_there(1 < setup.processors, setup.shape, &vps[1], level);
-    let second = enabled_there(2 < setup.processors, setup.shape, &vps[2], level);
-    let third = enabled_there(3 < setup.processors, setup.shape, &vps[3], level);
-    zeroth | first | second | third
+    (0..4).any(|v| enabled_there((v as u64) < setup.processors, setup.shape, &vps[v], level))
 }
 
 // The rule of what a level does on a processor that is there.
