@@ -85,12 +85,7 @@ fn enabled_anywhere(setup: Setup, vps: &[Record; 4], level: Level) -> bool
 }
 
 // The rule of what a level does on a processor that is there.
-fn acted(
-    setup: Setup,
-    parts: &mut Parts,
-    words: &mut [u64],
-    operation: Operation,
-) -> Answer
+fn acted(setup: Setup, parts: &mut Parts, words: &mut [u64], operation: Operation) -> Answer
     requires { (setup.processors ≤ 4) × (is_index setup.processors operation.vp.0 ≡ true) }
     ensures { outcome_of result
         (state_of setup parts.new words.new)
@@ -181,12 +176,7 @@ fn acted(
 }
 
 // The rule of an event. Its processor and its mode are looked at here, once for all events.
-fn ruled(
-    setup: Setup,
-    parts: &mut Parts,
-    words: &mut [u64],
-    event: Event,
-) -> Answer
+fn ruled(setup: Setup, parts: &mut Parts, words: &mut [u64], event: Event) -> Answer
     requires { setup.processors ≤ 4 }
     ensures { outcome_of result
         (state_of setup parts.new words.new)
@@ -202,12 +192,7 @@ fn ruled(
                 return Answer::Refused(Refusal::NoSuchMode);
             }
             let mode = mode_of(mode);
-            acted(
-                setup,
-                parts,
-                words,
-                Operation { vp, mode, action },
-            )
+            acted(setup, parts, words, Operation { vp, mode, action })
         }
         Event::Int { on, target, vector } => {
             if !is_processor(setup.processors, on) {
@@ -243,12 +228,7 @@ pub fn step_if(
 }
 
 // One event on a machine with the words of its pages. A state that is not well formed gets answer 1, and nothing changes.
-pub fn step(
-    setup: Setup,
-    parts: &mut Parts,
-    words: &mut [u64],
-    event: Event,
-) -> Answer
+pub fn step(setup: Setup, parts: &mut Parts, words: &mut [u64], event: Event) -> Answer
     ensures { outcome_of result
         (state_of setup parts.new words.new)
         ≡ step_of
