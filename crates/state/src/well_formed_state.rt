@@ -51,6 +51,7 @@ pub fn well_formed(setup: Setup, parts: &Parts, words: &[u64]) -> bool
     let shape = setup.shape;
     let count = words.len() as u64;
     let sized = in_range(setup.processors, shape.max_level, setup.pages);
+    // One line a place: by `all` over the places the proof did not close.
     let zero = well_formed_place(0 < setup.processors, shape, &parts.levels, &parts.vps[0]);
     let one = well_formed_place(1 < setup.processors, shape, &parts.levels, &parts.vps[1]);
     let two = well_formed_place(2 < setup.processors, shape, &parts.levels, &parts.vps[2]);

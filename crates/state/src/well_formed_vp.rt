@@ -128,8 +128,12 @@ pub fn well_formed_vp(shape: Shape, levels: &Levels, vp: &Record) -> bool
 {
     let lowest = record::enabled_at(shape, vp, Level(0));
     let active = record::enabled_at(shape, vp, record::active_of(vp));
-    let formed =
-        (0..LEVEL_COUNT).all(|number| well_formed_context(shape, levels, vp, Level(number)));
+    let formed = (0..LEVEL_COUNT).all(|number| well_formed_context(
+        shape,
+        levels,
+        vp,
+        Level(number),
+    ));
     lowest & active & formed
 }
 

@@ -25,8 +25,8 @@ unfolding well_formed_vp partition_of
 returns c = λ masks.
     let a = c.args in
     let each : c.all-formed.result ≡ every 4 (formed a.shape a.levels.now (vp_of a.vp.now)) =
-        all_from_yields_List (formed a.shape a.levels.now (vp_of a.vp.now)) _ _ c.all-formed.result c.all-formed.ensures.ran (YieldsList-from_range 0 4 4 (cc) refl) (λ x b q k. search (rules, tests))
-        ∙ all-range 0 4 (formed a.shape a.levels.now (vp_of a.vp.now)) (formed a.shape a.levels.now (vp_of a.vp.now))
-        (λ i h. ap (formed a.shape a.levels.now (vp_of a.vp.now)) (let e : 0 + i ≡ i = omega arith in e)) in
+    all_from_yields_List (formed a.shape a.levels.now (vp_of a.vp.now)) _ _ c.all-formed.result c.all-formed.ensures.ran (YieldsList-from_range 0 4 4 (cc) refl) (λ x b q k. search (rules, tests))
+    ∙ all-range 0 4 (formed a.shape a.levels.now (vp_of a.vp.now)) (formed a.shape a.levels.now (vp_of a.vp.now))
+    (λ i h. ap (formed a.shape a.levels.now (vp_of a.vp.now)) (let e : 0 + i ≡ i = omega arith in e)) in
     ap (λ b. c.enabled_at-lowest.result && c.enabled_at-active.result && b) each
     ∙ rw (c.enabled_at-active.ensures, c.active_of.ensures, c.enabled_at-lowest.ensures, contexts-length _) (all-joined _ _)

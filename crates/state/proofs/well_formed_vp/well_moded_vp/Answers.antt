@@ -24,6 +24,6 @@ pub returns : goal.returns
 unfolding well_moded_vp every
 returns c =
     let each : c.all.result ≡ every 3 (λ i. moded c (suc i)) =
-        all_from_yields_List (moded c) _ _ c.all.result c.all.ensures.ran (YieldsList-from_range 1 4 3 (cc) refl) (λ x b q k. search (rules, tests))
-        ∙ all-range 1 3 (moded c) (λ i. moded c (suc i)) (λ i h. ap (moded c) (let e : 1 + i ≡ suc i = omega arith in e)) in
+    all_from_yields_List (moded c) _ _ c.all.result c.all.ensures.ran (YieldsList-from_range 1 4 3 (cc) refl) (λ x b q k. search (rules, tests))
+    ∙ all-range 1 3 (moded c) (λ i. moded c (suc i)) (λ i h. ap (moded c) (let e : 1 + i ≡ suc i = omega arith in e)) in
     rw each
