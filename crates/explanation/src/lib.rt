@@ -150,12 +150,7 @@ pub fn explain(
 }
 
 // The same for a processor of a machine. One that there is not has the empty record: level 0 is active, and no level has MBEC on.
-pub fn explain_in(
-    setup: Setup,
-    parts: &Parts,
-    vp: Processor,
-    request: Request,
-) -> Explanation
+pub fn explain_in(setup: Setup, parts: &Parts, vp: Processor, request: Request) -> Explanation
     ensures { (words : List ℕ)
         → explanation_of (state_of setup parts.now words)
         vp.0 request.mode request.page.0 request.access ≡ result }

@@ -93,7 +93,10 @@ fn past_front(line: &[u8], place: Place) -> Option<usize>
 fn is_flag(place: Place) -> bool
     ensures { result ≡ is_flag place }
 {
-    matches!(place, Place::PartitionEnabled(_) | Place::Mbec(_) | Place::Enabled(_, _))
+    matches!(
+        place,
+        Place::PartitionEnabled(_) | Place::Mbec(_) | Place::Enabled(_, _)
+    )
 }
 
 // A number that says yes or no is 0 or 1.

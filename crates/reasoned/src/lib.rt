@@ -78,12 +78,7 @@ fn end_later(start: Session, out: &mut [u8; LONGEST_REASONED]) -> Written
     let mut words = start.words;
     let lent = session::lent_words(&words, start.lent);
     let parsed = script::parse(start.line.bytes());
-    let told = tell(
-        start.setup,
-        &mut parts,
-        &mut words[..lent],
-        parsed,
-    );
+    let told = tell(start.setup, &mut parts, &mut words[..lent], parsed);
     let wrote = write_line(out, number, told.shown, told.why);
     let session = session::after_line(start, next, parts, words);
     Written { session, wrote }

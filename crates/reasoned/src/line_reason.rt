@@ -14,8 +14,8 @@ use model::event::Event;
 use model::machine::Setup;
 use model::quantity::Level;
 use processor::record::active_of;
-use state::parts::Parts;
 use reason::{Reason, cause_of, reason_for};
+use state::parts::Parts;
 use state::well_formed_state::well_formed;
 
 // What the listing shows of an answer, and the reason for it.

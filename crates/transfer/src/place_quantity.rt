@@ -70,12 +70,7 @@ fn page_word(words: &[u64], page: Page) -> u64
 }
 
 // The quantity at a place that the machine has.
-pub(crate) fn quantity(
-    setup: Setup,
-    parts: &Parts,
-    words: &[u64],
-    place: Place,
-) -> u64
+pub(crate) fn quantity(setup: Setup, parts: &Parts, words: &[u64], place: Place) -> u64
     requires { (has setup place ≡ true) × (length words.now ≡ setup.pages) }
     ensures { result ≡ value_at (state_of setup parts.now words.now) place }
 {
