@@ -53,7 +53,8 @@ fn receiver_of(shape: Shape, vp: &Record, denying: LevelSet) -> Option<Level>
     ensures { result
         ≡ level_found (lowest_in denying.0 (bits 4 (λ l. enabled_at shape (vp_of vp.now) l))) }
 {
-    lowest(denying, enabled_set(shape, vp))
+    let enabled = enabled_set(shape, vp);
+    lowest(denying, enabled)
 }
 
 // Is it a fetch?
