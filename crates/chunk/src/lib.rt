@@ -28,7 +28,7 @@ pub fn line_end(chunk: &[u8], start: usize) -> usize
     find_far_byte(chunk, start, b'\n')
 }
 
-// The beginning of a line that goes on in the next chunk: the first `length` bytes of a buffer.
+// The beginning of a line that goes on in the next chunk: the first `length` bytes of a buffer, since the library takes no memory of the heap.
 #[derive(Clone, Copy)]
 pub struct HeldLine {
     pub buffer: [u8; KEPT_BYTES],

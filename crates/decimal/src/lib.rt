@@ -82,7 +82,7 @@ fn write_long(out: &mut [u8], at: usize, value: u64) -> usize
 }
 
 // Writes `value` into `out` from `at` on, and returns the place after it. Where it has no room, nothing is written, and `at` is
-// returned. Most numbers have one digit.
+// returned, as `after_text` says. Most numbers have one digit.
 pub fn write(out: &mut [u8], at: usize, value: u64) -> usize
     ensures value { result ≡ after_text out.old at (decimal value) }
     ensures out_after { out.new ≡ with_text out.old at (decimal value) }

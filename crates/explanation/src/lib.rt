@@ -35,7 +35,8 @@ pub struct Denial {
 }
 
 // Why an access is allowed or denied. The host is named only where no level denies. The receiver of the intercept is the lowest denying
-// level that is enabled on the processor, if one is. The three denials are those of levels 1, 2 and 3, of each that denies.
+// level that is enabled on the processor, if one is. The three denials are those of levels 1, 2 and 3, of each that denies, by name as the
+// theorems of specs/ExplainedClaims.antt have them.
 #[derive(Clone, Copy)]
 pub enum Explanation {
     Allowed,

@@ -153,7 +153,7 @@ pub fn config(
         return Answer::Refused(Refusal::ProtectionsCleared);
     }
     let old = default_mask(config_at(shape, levels, target));
-    if on & !(mask == old) {
+    if on & (mask != old) {
         return Answer::Refused(Refusal::DefaultMaskChanged);
     }
     if kernel_only(mask) & mbec_for(shape, levels, target) {

@@ -79,7 +79,7 @@ pub struct Shown {
     pub level: Level,
 }
 
-// The level column for an answer with this number.
+// The level column for an answer with this number: the definition goes by the number too.
 fn level_shown(number: u64, active: Level) -> Level
     ensures { result ≡ level_shown number active }
 {

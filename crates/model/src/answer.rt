@@ -1,6 +1,6 @@
 // What an event is answered. specs/Answers.antt gives the number and the value that a listing shows for each case.
 use crate::quantity::Level;
-
+// Three kinds side by side, as the rules list them: with `Result` an intercept would stand among the values that an event gives.
 #[derive(Clone, Copy, PartialEq, Eq)]
 pub enum Answer {
     // The event took place; its value.

@@ -4,7 +4,7 @@
 use crate::quantity::Level;
 use crate::set::LevelSet;
 
-// The first line of a script: what a fresh machine is made from.
+// The first line of a script: what a fresh machine is made from. Its flags are numbers as given: `admissible` refuses any but 0 and 1.
 #[derive(Clone, Copy)]
 pub struct FirstLine {
     pub processors: u64,
@@ -34,7 +34,8 @@ pub struct Setup {
     pub shape: Shape,
 }
 
-// The reasons for which a level is entered: a VTL call, and an interrupt or an intercept.
+// The reasons for which a level is entered: a VTL call, and an interrupt or an intercept. No enum, since a state holds any number here, and
+// `well_formed` refuses the others.
 pub const BY_CALL: u64 = 1;
 
 pub const BY_INTERRUPT: u64 = 2;

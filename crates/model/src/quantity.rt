@@ -4,7 +4,8 @@ ghost use Rattle.std.specs.Prelude.{◌≡◌};
 ghost use Rattle.model.specs.Memory.{is_user};
 ghost use Rattle.model.specs.Step.{mode_of};
 
-// A virtual trust level. Level 0 is the least privileged.
+// A virtual trust level. Level 0 is the least privileged. Code mostly compares the numbers: a comparison of the levels themselves takes a law of
+// the derived order in the proof of each event, and reads no better.
 #[derive(Clone, Copy, PartialEq, Eq, PartialOrd, Ord)]
 pub struct Level(pub u64);
 

@@ -10,5 +10,5 @@ pub struct WatchedAccess {
     pub write: bool,
 }
 
-// No register of ours has this number. A bit with it is stored only.
+// No register of ours has this number, which `watch_table` of specs/Watching.antt has for it: so it is no `Option`. A bit with it is stored only.
 pub const NOT_MODELLED: u64 = 32;

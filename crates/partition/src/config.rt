@@ -28,7 +28,7 @@ pub fn reserved_set(word: u64) -> bool
 {
     let low = take(word, 7, 2);
     let high = take(word, 10, 54);
-    !((low == 0) & (high == 0))
+    (low != 0) | (high != 0)
 }
 
 // The same of a secure configuration word.
@@ -36,5 +36,5 @@ pub fn secure_reserved_set(word: u64) -> bool
     ensures { result ≡ secure_reserved_set word }
 {
     let high = take(word, 2, 62);
-    !(high == 0)
+    high != 0
 }

@@ -13,7 +13,8 @@ use model::quantity::Level;
 use model::set;
 use model::set::LevelSet;
 
-// The sets and the configuration words: specs/PartitionView.antt says what each word holds.
+// The sets and the configuration words: specs/PartitionView.antt says what each word holds. They are words for the reason that `Record` of crate
+// `processor` has, and go with the shape in the same way.
 pub type Levels = [u64; 6];
 
 // The configuration word of level l stands at CONFIGS + l.

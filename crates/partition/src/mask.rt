@@ -10,6 +10,7 @@ use model::machine::Shape;
 use model::quantity::{Level, Page};
 use word::field::has_bit;
 
+// Words that a caller of lockstep owns, as those of `Levels` are.
 pub type Masks = [u64; 256];
 
 // The bits of a mask.

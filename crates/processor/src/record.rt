@@ -12,7 +12,8 @@ use model::quantity::Level;
 use model::set;
 use model::set::LevelSet;
 
-// The words of a record.
+// The words of a record. It is words, and not the struct of crate `model`, since the machine of lockstep is words that its caller owns. With it goes
+// the shape, by value: a struct that held both would hold a `&mut`, whose every function has to say that it is still the same reference.
 pub const RECORD_WORDS: usize = 138;
 
 pub type Record = [u64; RECORD_WORDS];

@@ -21,7 +21,7 @@ pub fn intercept_reserved_set(word: u64) -> bool
     ensures { result ≡ intercept_reserved_set word }
 {
     let high = take(word, NAMED_BITS as u32, RESERVED_BITS);
-    !(high == 0)
+    high != 0
 }
 
 // The word and the masks of a level; all 0 beyond M.

@@ -2,7 +2,8 @@
 ghost use Rattle.std.specs.Prelude.{cond, ◌≡◌, ◌+◌, ◌≤◌, ltb, length};
 ghost use Rattle.script.specs.Search.{byte_at};
 
-// Where `byte` next stands from `start` on, or the end of the bytes. A place past the end is answered as it is.
+// Where `byte` next stands from `start` on, or the end of the bytes, as `byte_at` has it. A place past the end is answered as it is.
+// (`position` proves too, and costs 6 instructions a line more.)
 pub fn find_byte(bytes: &[u8], start: usize, byte: u8) -> usize
     ensures { result ≡ byte_at byte bytes.now start }
 {

@@ -30,7 +30,7 @@ use word::registers::SecureConfig;
 // The words of pending vectors of a level.
 const PENDING_WORDS: u64 = 4;
 
-// The word at an offset in a level's row; 0 beyond M.
+// The word at an offset in a level's row; 0 beyond M. (`level_word` of crate `processor` asks the same of its caller, so it is not public.)
 fn row_word(shape: Shape, vp: &Record, level: Level, offset: u64) -> u64
     requires { (level.0 < 4) × (offset < level_words) }
     ensures { result ≡ word_in shape vp.now level.0 offset }
@@ -51,7 +51,7 @@ fn well_entered(level: Level, from_enabled: bool, control: Control) -> bool
 {
     let from = control.from.0;
     let reason = control.reason;
-    (from < level.0) & from_enabled & (!(reason == 0) | (from == 0)) & (reason <= BY_INTERRUPT)
+    (from < level.0) & from_enabled & ((reason != 0) | (from == 0)) & (reason <= BY_INTERRUPT)
 }
 
 // Are reason, level left, RAX and RCX 0?

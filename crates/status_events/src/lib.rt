@@ -69,7 +69,7 @@ pub fn vstat(shape: Shape, vp: &Record, mode: Mode) -> Answer
     let enabled = enabled_set(shape, vp);
     let word = VpStatus {
         active_vtl: actor.0,
-        active_mbec_enabled: one_if(!(mbecs.0 == 0)),
+        active_mbec_enabled: one_if(mbecs.0 != 0),
         enabled_vtl_set: enabled.0,
     }
     .pack();

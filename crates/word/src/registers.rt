@@ -269,7 +269,7 @@ const FIRST_ROWS: [u64; 8] = [0, 3, 6, 9, 14, 16, 18, 43];
 
 const REGISTERS: u64 = 7;
 
-// A field that is not there has no bits.
+// A field that is not there has no bits: C asks for fields by number, any number.
 const NOWHERE: FieldPosition = FieldPosition(0, 0);
 
 // Where a field of a register stands. Registers and their used fields are numbered from 0 in the order of 001.
