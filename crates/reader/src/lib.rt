@@ -79,13 +79,7 @@ fn receive(input: &[u8], from: usize, setup: Setup) -> Option<Received>
         vps: blank_records(setup.processors),
     };
     let mut words = [0u64; 64];
-    let used = read_places(
-        input,
-        from,
-        setup,
-        &mut parts,
-        &mut words,
-    )?;
+    let used = read_places(input, from, setup, &mut parts, &mut words)?;
     let pages = lent_words(&words, setup.pages);
     if !well_formed(setup, &parts, &words[..pages]) {
         return None;

@@ -109,12 +109,7 @@ fn in_row(level: Level, offset: u64) -> u64
 }
 
 // Stores the quantity at a place.
-pub(crate) fn store(
-    parts: &mut Parts,
-    words: &mut [u64; 64],
-    place: Place,
-    x: u64,
-)
+pub(crate) fn store(parts: &mut Parts, words: &mut [u64; 64], place: Place, x: u64)
     requires { Room place }
     ensures { parts_with parts.new words.new ≡ stored place x (parts_with parts.old words.old) }
 {

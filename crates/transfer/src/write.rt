@@ -18,13 +18,7 @@ use state::well_formed_state::well_formed;
 pub const LONGEST_TEXT: usize = 65536;
 
 // Writes all records after the first from `start` on, and returns the place after them.
-fn write_places(
-    out: &mut [u8],
-    start: usize,
-    setup: Setup,
-    parts: &Parts,
-    words: &[u64],
-) -> usize
+fn write_places(out: &mut [u8], start: usize, setup: Setup, parts: &Parts, words: &[u64]) -> usize
     requires words_value { well_formed (state_of setup parts.now words.now) ≡ true }
     requires words_in_bounds { start + length (places_text (state_of setup parts.now words.now))
         ≤ length out.old }
@@ -33,23 +27,16 @@ fn write_places(
 {
     let mut at = start;
     let mut due = walk::first(setup);
-    loop {
-        let Some(place) = due else {
-            return at;
-        };
+    while let Some(place) = due {
         let value = quantity(setup, parts, words, place);
         at = write_record(out, at, place, value);
         due = walk::next(setup, place);
     }
+    at
 }
 
 // Writes all records at the start of a buffer that has room for them, and returns how many bytes they take.
-fn write_all(
-    out: &mut [u8],
-    setup: Setup,
-    parts: &Parts,
-    words: &[u64],
-) -> usize
+fn write_all(out: &mut [u8], setup: Setup, parts: &Parts, words: &[u64]) -> usize
     requires words_value { well_formed (state_of setup parts.now words.now) ≡ true }
     requires longest_text_in_bounds { longest_text ≤ length out.old }
     ensures value { result ≡ length (records_text (state_of setup parts.now words.now)) }
@@ -59,25 +46,13 @@ fn write_all(
     write_places(out, end, setup, parts, words)
 }
 
-// A buffer that has room for the records of every well-formed machine.
-fn blank() -> [u8; LONGEST_TEXT]
-    ensures { longest_text ≡ length result }
-{
-    [0; LONGEST_TEXT]
-}
-
 // Writes all records at the start of a buffer of any size, by way of one that has room; nothing where they have none.
-fn write_within(
-    out: &mut [u8],
-    setup: Setup,
-    parts: &Parts,
-    words: &[u64],
-) -> usize
+fn write_within(out: &mut [u8], setup: Setup, parts: &Parts, words: &[u64]) -> usize
     requires { well_formed (state_of setup parts.now words.now) ≡ true }
     ensures value { result ≡ after_text out.old 0 (sent_text (state_of setup parts.now words.now)) }
     ensures out_after { out.new ≡ with_text out.old 0 (sent_text (state_of setup parts.now words.now)) }
 {
-    let mut text = blank();
+    let mut text = [0; LONGEST_TEXT];
     let size = write_all(&mut text, setup, parts, words);
     if out.len() < size {
         return 0;
@@ -87,12 +62,7 @@ fn write_within(
 
 // Writes the records of a machine at the start of `out`, and returns how many bytes they take. Where the machine is not well formed, or
 // its records have no room, nothing is written and 0 is returned. LONGEST_TEXT bytes are always room.
-pub fn write_records(
-    out: &mut [u8],
-    setup: Setup,
-    parts: &Parts,
-    words: &[u64],
-) -> usize
+pub fn write_records(out: &mut [u8], setup: Setup, parts: &Parts, words: &[u64]) -> usize
     ensures value { result ≡ after_text out.old 0 (sent_text (state_of setup parts.now words.now)) }
     ensures out_after { out.new ≡ with_text out.old 0 (sent_text (state_of setup parts.now words.now)) }
 {

@@ -78,8 +78,8 @@ row_word-requires-in-Rcx c =
     let lim : (q : Place) → c.args.place ≡ q → Limits c.args.setup q = λ q e. rw e at (limits c.args.setup c.args.place c.requires.0) in
     omega (arith, lim _ c.in-Rcx.is)
 
-pub page_word-requires : goal.page_word-requires
-page_word-requires c =
+pub word_at-requires : goal.word_at-requires
+word_at-requires c =
     let lim : (q : Place) → c.args.place ≡ q → Limits c.args.setup q = λ q e. rw e at (limits c.args.setup c.args.place c.requires.0) in
     omega (arith, lim _ c.in-Word.is)
 
@@ -102,13 +102,13 @@ pub returns-in-PartitionEnabled : goal.returns-in-PartitionEnabled
 returns-in-PartitionEnabled c =
     let told : (q : Place) → c.args.place ≡ q → kept_at c.args.setup c.args.parts.now.levels c.args.parts.now.masks c.args.parts.now.vps c.args.words.now q ≡ value_at (lent c.args.setup c.args.parts.now.levels c.args.parts.now.masks c.args.parts.now.vps c.args.words.now) c.args.place = λ q e. ap (kept_at c.args.setup c.args.parts.now.levels c.args.parts.now.masks c.args.parts.now.vps c.args.words.now) (sym e)
     ∙ kept c.args.setup c.args.parts.now.levels c.args.parts.now.masks c.args.parts.now.vps c.args.words.now c.args.place c.requires.0 in
-    c.number.ensures ∙ ap number c.enabled_for.ensures ∙ told _ c.in-PartitionEnabled.is
+    c.one_if.ensures ∙ ap number c.enabled_for.ensures ∙ told _ c.in-PartitionEnabled.is
 
 pub returns-in-Mbec : goal.returns-in-Mbec
 returns-in-Mbec c =
     let told : (q : Place) → c.args.place ≡ q → kept_at c.args.setup c.args.parts.now.levels c.args.parts.now.masks c.args.parts.now.vps c.args.words.now q ≡ value_at (lent c.args.setup c.args.parts.now.levels c.args.parts.now.masks c.args.parts.now.vps c.args.words.now) c.args.place = λ q e. ap (kept_at c.args.setup c.args.parts.now.levels c.args.parts.now.masks c.args.parts.now.vps c.args.words.now) (sym e)
     ∙ kept c.args.setup c.args.parts.now.levels c.args.parts.now.masks c.args.parts.now.vps c.args.words.now c.args.place c.requires.0 in
-    c.number-in-Mbec.ensures ∙ ap number c.mbec_for.ensures ∙ told _ c.in-Mbec.is
+    c.one_if-in-Mbec.ensures ∙ ap number c.mbec_for.ensures ∙ told _ c.in-Mbec.is
 
 pub returns-in-Config : goal.returns-in-Config
 returns-in-Config c =
@@ -186,7 +186,7 @@ pub returns-in-Word : goal.returns-in-Word
 returns-in-Word c =
     let told : (q : Place) → c.args.place ≡ q → kept_at c.args.setup c.args.parts.now.levels c.args.parts.now.masks c.args.parts.now.vps c.args.words.now q ≡ value_at (lent c.args.setup c.args.parts.now.levels c.args.parts.now.masks c.args.parts.now.vps c.args.words.now) c.args.place = λ q e. ap (kept_at c.args.setup c.args.parts.now.levels c.args.parts.now.masks c.args.parts.now.vps c.args.words.now) (sym e)
     ∙ kept c.args.setup c.args.parts.now.levels c.args.parts.now.masks c.args.parts.now.vps c.args.words.now c.args.place c.requires.0 in
-    c.page_word.ensures ∙ told _ c.in-Word.is
+    c.word_at.ensures ∙ told _ c.in-Word.is
 
 pub returns-in-Mask : goal.returns-in-Mask
 returns-in-Mask c =
