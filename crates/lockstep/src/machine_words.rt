@@ -166,15 +166,6 @@ pub(crate) fn parts_in(machine: &[u64]) -> Parts
     }
 }
 
-// Stores a processor's record at a place. A proof that stores behind it asks how long it is.
-fn store_record(machine: &mut [u64], place: usize, vp: &Record)
-    requires { place + record_words ≤ length machine.old }
-    ensures stored { machine.new ≡ sets machine.old place vp.now }
-    ensures size { length vp.now ≡ record_words }
-{
-    store_words(machine, place, vp);
-}
-
 // Stores the parts that a step may change, but for the words of the pages. A proof asks how long they are.
 pub(crate) fn store_parts(machine: &mut [u64], parts: &Parts)
     requires { machine_words ≤ length machine.old }
@@ -185,8 +176,8 @@ pub(crate) fn store_parts(machine: &mut [u64], parts: &Parts)
     let Parts { levels, masks, vps } = parts;
     store_words(machine, LEVELS, levels);
     store_words(machine, MASKS, masks);
-    store_record(machine, FIRST_RECORD, &vps[0]);
-    store_record(machine, SECOND_RECORD, &vps[1]);
-    store_record(machine, THIRD_RECORD, &vps[2]);
-    store_record(machine, FOURTH_RECORD, &vps[3]);
+    store_words(machine, FIRST_RECORD, &vps[0]);
+    store_words(machine, SECOND_RECORD, &vps[1]);
+    store_words(machine, THIRD_RECORD, &vps[2]);
+    store_words(machine, FOURTH_RECORD, &vps[3]);
 }
