@@ -1,6 +1,6 @@
 -- What is proved of lockstep: a refusal changes no word, and what is told line by line are the records of the listing (01, "Script and listing"). The
 -- links of a run are what the contracts of `open` and `step` give. Proved in proofs/LockstepRun.antt. Assumes nothing.
-use Rattle.std.specs.Prelude.{true, List, [], ◌∷◌, ◌++◌, ◌≡◌, ℕ, ◌≤◌, length, Err, Ok, Result}
+use Rattle.std.specs.Prelude.{true, List, [], ◌∷◌, ◌++◌, ◌≡◌, ℕ, ◌≤◌, length, Ok, Result}
 use Rattle.listing.specs.Listing.{first_done, later_records, listing_of, number_after}
 use Rattle.model.specs.Fresh.{admissible}
 use Rattle.script.specs.First.{FirstLine, line_first}

@@ -130,6 +130,7 @@ fn answer_line(machine: &mut [u64], line: &[u8]) -> Reply
 }
 
 // The same on any words.
+#[tactic(auto, unfolding(crate::specs::Lockstep::stepped_in))]
 fn answer_words(machine: &mut [u64], line: &[u8]) -> Reply
     ensures { AnsweredIn (stepped_in machine.old line.now) result machine.new }
 {

@@ -51,11 +51,7 @@ pub(crate) fn store_words(to: &mut [u64], at: usize, from: &[u64])
     requires { at + length from.now ≤ length to.old }
     ensures { to.new ≡ sets to.old at from.now }
 {
-    let mut i: usize = 0;
-    while i < from.len() {
-        to[at + i] = from[i];
-        i += 1;
-    }
+    to[at..at + from.len()].copy_from_slice(from);
 }
 
 // Stores what a first line says of the setup.
@@ -121,7 +117,7 @@ fn levels_in(machine: &[u64]) -> Levels
     ensures { result ≡ part levels_at level_count machine.now }
 {
     let mut levels = [0u64; 6];
-    store_words(&mut levels, 0, &machine[LEVELS..MASKS]);
+    levels.copy_from_slice(&machine[LEVELS..MASKS]);
     levels
 }
 
@@ -130,7 +126,7 @@ fn masks_in(machine: &[u64]) -> Masks
     ensures { result ≡ part masks_at mask_count machine.now }
 {
     let mut masks = [0u64; 256];
-    store_words(&mut masks, 0, &machine[MASKS..FIRST_RECORD]);
+    masks.copy_from_slice(&machine[MASKS..FIRST_RECORD]);
     masks
 }
 
@@ -139,8 +135,7 @@ fn record_in(machine: &[u64], place: usize) -> Record
     ensures { result ≡ part place record_words machine.now }
 {
     let mut record = [0u64; RECORD_WORDS];
-    let end = place + RECORD_WORDS;
-    store_words(&mut record, 0, &machine[place..end]);
+    record.copy_from_slice(&machine[place..place + RECORD_WORDS]);
     record
 }
 
@@ -149,11 +144,12 @@ fn records_in(machine: &[u64]) -> [Record; 4]
     requires { machine_words ≤ length machine.now }
     ensures { result ≡ records_in machine.now }
 {
-    let first = record_in(machine, FIRST_RECORD);
-    let second = record_in(machine, SECOND_RECORD);
-    let third = record_in(machine, THIRD_RECORD);
-    let fourth = record_in(machine, FOURTH_RECORD);
-    [first, second, third, fourth]
+    [
+        record_in(machine, FIRST_RECORD),
+        record_in(machine, SECOND_RECORD),
+        record_in(machine, THIRD_RECORD),
+        record_in(machine, FOURTH_RECORD),
+    ]
 }
 
 // What they hold of all three.
@@ -170,16 +166,6 @@ pub(crate) fn parts_in(machine: &[u64]) -> Parts
     }
 }
 
-// Stores a processor's record at a place. A proof that stores behind it asks how long it is.
-fn store_record(machine: &mut [u64], place: usize, vp: &Record)
-    requires { place + record_words ≤ length machine.old }
-    ensures stored { machine.new ≡ sets machine.old place vp.now }
-    ensures size { length vp.now ≡ record_words }
-{
-    let words: &[u64] = vp;
-    store_words(machine, place, words);
-}
-
 // Stores the parts that a step may change, but for the words of the pages. A proof asks how long they are.
 pub(crate) fn store_parts(machine: &mut [u64], parts: &Parts)
     requires { machine_words ≤ length machine.old }
@@ -188,12 +174,10 @@ pub(crate) fn store_parts(machine: &mut [u64], parts: &Parts)
     ensures sizes { PartSizes parts.now.levels parts.now.masks parts.now.vps }
 {
     let Parts { levels, masks, vps } = parts;
-    let level_words: &[u64] = levels;
-    store_words(machine, LEVELS, level_words);
-    let mask_words: &[u64] = masks;
-    store_words(machine, MASKS, mask_words);
-    store_record(machine, FIRST_RECORD, &vps[0]);
-    store_record(machine, SECOND_RECORD, &vps[1]);
-    store_record(machine, THIRD_RECORD, &vps[2]);
-    store_record(machine, FOURTH_RECORD, &vps[3]);
+    store_words(machine, LEVELS, levels);
+    store_words(machine, MASKS, masks);
+    store_words(machine, FIRST_RECORD, &vps[0]);
+    store_words(machine, SECOND_RECORD, &vps[1]);
+    store_words(machine, THIRD_RECORD, &vps[2]);
+    store_words(machine, FOURTH_RECORD, &vps[3]);
 }

@@ -16,6 +16,7 @@ pub const SHORT_SLICE: u64 = 2;
 pub const NOT_ADMISSIBLE: u64 = 3;
 
 // The number of a refusal.
+#[tactic(auto, unfolding(crate::specs::ReasonNumbers::refusal_reason))]
 pub fn refusal_reason(refusal: Refusal) -> u64
     ensures { result ≡ refusal_reason refusal }
 {

@@ -1,6 +1,8 @@
 -- Laws of the bytes that a line must have before its number. Assumes nothing.
+use Rattle.std.specs.Bool.{then_some}
+use Rattle.std.specs.List.{starts_with}
 use Rattle.std.specs.Prelude.{None, Option, Some}
-use mathlib.Core.Bool.{Bool, true, false, cond}
+use mathlib.Core.Bool.{Bool, true, false, cond, ◌&&◌}
 use mathlib.Core.List.{List, [], ◌∷◌, ◌++◌, append_assoc, append-nil}
 use mathlib.Core.Path.{◌≡◌, refl, sym, ◌∙◌}
 use Prim.Native.Nat.{ℕ, zero, suc, ◌+◌, ◌/◌, ◌%◌, ◌≤◌, ◌<◌}
@@ -8,7 +10,7 @@ use native.Mathlib.Numerals.{add-one}
 use native.Mathlib.Omega.{arith}
 use lib.Dec.{eqb}
 use lib.ListN.{drop, drop_of_length-le, get_or, length, take}
-use lib.Seq.{drop-cons, drop-length, take_all}
+use lib.Seq.{drop-cons, take_all}
 use borrow.Author.Tests.{eq-eqb, le-ltb, lt-ltb, ne_eqb}
 use Rattle.decimal.specs.Read.{read_decimal}
 use Rattle.decimal.specs.Write.{decimal, digits_before, digits_in}
@@ -62,50 +64,22 @@ pub cell-two : (n : ℕ) → 10 ≤ n → n < 100 → cell n tab ≡ (48 + n / 1
 unfolding cell
 cell-two n l h = rw (two_digits n l h)
 
--- The first bytes of a word are those of the line.
-pub record Begun (line word : List ℕ) (i : ℕ) : Type 0 where
-  pub within : (i ≤ length word) × (length word ≤ length line)
-  pub same : (more : List ℕ) → number_after (word ++ more) line ≡ number_after (drop i word ++ more) (drop i line)
-
-module _ {line word : List ℕ} where
-  pub begun-start : length word ≤ length line → Begun line word 0
-  begun-start h = record { within = (omega arith, h); same = λ more. refl }
-
-  module _ {i : ℕ} (w : Begun line word i) where
-    opened : i < length word → (more : List ℕ)
-        → number_after (word ++ more) line ≡ cond (eqb (get_or word i 0) (get_or line i 0)) (number_after (drop (suc i) word ++ more) (drop (suc i) line)) None
-    unfolding number_after
-    opened h more = w.same more ∙ rw (drop-cons word i 0 h, drop-cons line i 0 (omega (arith, w.within)))
-
-    pub begun-next : i < length word → get_or line i 0 ≡ get_or word i 0 → Begun line word (i + 1)
-    begun-next h e = record {
-      within = omega (arith, w.within);
-      same = λ more. opened h more ∙ rw (eq-eqb (get_or word i 0) (get_or line i 0) (sym e), add-one i);
-    }
-
-    pub begun-other : i < length word → (get_or line i 0 ≡ get_or word i 0 → ⊥) → After line 0 word None
-    begun-other h e more = opened h more ∙ rw (ne_eqb (get_or word i 0) (get_or line i 0) (λ k. e (sym k)))
-
-    pub begun-end : length word ≤ i → After line 0 word (Some (length word))
-    begun-end h = (here, omega (arith, w.within))
-      where
-        here : (more : List ℕ) → number_after (word ++ more) line ≡ number_after more (drop (length word) line)
-        here more =
-            let e : i ≡ length word = omega (arith, w.within) in
-            let none : drop (length word) word ≡ [] = drop-length word in w.same more ∙ rw (e, none)
-
-too_short : (line word more : List ℕ) → length line < length word → number_after (word ++ more) line ≡ None
+-- The line begins with a word, or it has other bytes there.
+word-first : (word line more : List ℕ) → number_after (word ++ more) line ≡ cond (starts_with eqb line word) (number_after more (drop (length word) line)) None
 unfolding number_after
-too_short line [] more h = absurd (omega arith)
-too_short [] (a ∷ word) more h = refl
-too_short (b ∷ line) (a ∷ word) more h = go (eqb a b) (too_short line word more (omega arith))
+word-first [] line more = refl
+word-first (a ∷ word) [] more = refl
+word-first (a ∷ word) (b ∷ line) more = go (eqb a b) (word-first word line more)
   where
-    go : (t : Bool) → number_after (word ++ more) line ≡ None → cond t (number_after (word ++ more) line) None ≡ None
+    go : (t : Bool) → number_after (word ++ more) line ≡ cond (starts_with eqb line word) (number_after more (drop (length word) line)) None
+        → cond t (number_after (word ++ more) line) None ≡ cond (t && starts_with eqb line word) (number_after more (drop (length word) line)) None
     go true e = e
     go false e = refl
 
-pub begun-short : (line word : List ℕ) → length line < length word → After line 0 word None
-begun-short line word h more = too_short line word more h
+pub word-begins : (line word : List ℕ) (b : Bool) → b ≡ starts_with eqb line word → (b ≡ true → length word ≤ length line)
+    → After line 0 word (then_some b (length word))
+word-begins line word true e w = (λ more. word-first word line more ∙ rw (← e), w refl)
+word-begins line word false e w = λ more. word-first word line more ∙ rw (← e)
 
 -- Indices one after the other.
 pub two-digits-at : (numbers : List ℕ) (i : ℕ) → TwoDigits numbers → i < length numbers → get_or numbers i 0 < 100

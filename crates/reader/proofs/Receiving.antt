@@ -21,7 +21,7 @@ use Rattle.script.specs.Records.{lines, lines_in}
 use Rattle.state.specs.Lent.{machine_of, setup_of}
 use Rattle.records.specs.declared.place.Place.{Place}
 use Rattle.records.specs.Places.{places}
-use Rattle.records.specs.Reading.{Passed, first_record, from_first, passed_on}
+use Rattle.records.specs.Reading.{first_record, from_first, passed_on}
 use Rattle.records.specs.RecordTexts.{ended, lines_at, record_lines, records_text}
 use Rattle.records.specs.Values.{setup_at, value_at}
 use Rattle.records.proofs.SameBytes.{only-records}

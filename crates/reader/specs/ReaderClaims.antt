@@ -1,6 +1,6 @@
 -- What is proved of reading a machine (02, request 2; proofs/Prefix.antt): the first 64 KB of an input say all that its records say, so a
 -- program can read so much first and hand what is left of it on to the script. Assumes nothing.
-use Rattle.std.specs.Prelude.{true, List, ◌++◌, ◌≡◌, ℕ, ◌≤◌, ◌<◌, drop, length, None, Option, Some}
+use Rattle.std.specs.Prelude.{List, ◌++◌, ◌≡◌, ℕ, ◌≤◌, ◌<◌, drop, length, None, Option, Some}
 use Rattle.script.specs.Records.{lines}
 use Rattle.records.specs.Reading.{Passed, passed_on}
 use Rattle.records.specs.RecordTexts.{longest_text, records_text}

@@ -13,15 +13,7 @@ const FIRST_FIELDS: usize = 7;
 fn field_count(line: &[u8]) -> usize
     ensures { result ≡ length (fields line.now) }
 {
-    let mut count: usize = 1;
-    let mut i: usize = 0;
-    while i < line.len() {
-        if line[i] == b'\t' {
-            count += 1;
-        }
-        i += 1;
-    }
-    count
+    1 + line.iter().filter(|byte| **byte == b'\t').count()
 }
 
 // What the first record says.

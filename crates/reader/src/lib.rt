@@ -8,7 +8,7 @@ ghost use Rattle.script.specs.Records.{lines};
 
 use crate::first::first_record;
 use crate::places::{after_line, read_places};
-use chunk::{at_most, line_end};
+use chunk::line_end;
 use model::machine::Setup;
 use processor::record::{ENABLED, RECORD_WORDS, Record};
 use state::fresh::{admissible, setup_of};
@@ -56,16 +56,6 @@ fn blank_records(processors: u64) -> [Record; 4]
     ]
 }
 
-// How many words of the array are lent: as many as there are pages.
-fn lent_words(words: &[u64; 64], pages: u64) -> usize
-    requires { pages ≤ 64 }
-    ensures number { result ≡ pages }
-    ensures size { length words.now ≡ 64 }
-{
-    let all: &[u64] = words;
-    at_most(pages as usize, all.len())
-}
-
 // The machine that the records from `from` on say, if it is well formed.
 fn receive(input: &[u8], from: usize, setup: Setup) -> Option<Received>
     requires from_in_bounds { from ≤ length input.now }
@@ -80,7 +70,7 @@ fn receive(input: &[u8], from: usize, setup: Setup) -> Option<Received>
     };
     let mut words = [0u64; 64];
     let used = read_places(input, from, setup, &mut parts, &mut words)?;
-    let pages = lent_words(&words, setup.pages);
+    let pages = setup.pages as usize;
     if !well_formed(setup, &parts, &words[..pages]) {
         return None;
     }

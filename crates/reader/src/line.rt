@@ -48,18 +48,7 @@ fn past_index(line: &[u8], at: usize, index: u64) -> Option<usize>
 fn past_word(line: &[u8], word: &[u8]) -> Option<usize>
     ensures { After line.now 0 word.now result }
 {
-    let end = word.len();
-    if line.len() < end {
-        return None;
-    }
-    let mut i: usize = 0;
-    while i < end {
-        if line[i] != word[i] {
-            return None;
-        }
-        i += 1;
-    }
-    Some(end)
+    line.starts_with(word).then_some(word.len())
 }
 
 // The place behind indices, each with its tab.
@@ -69,11 +58,8 @@ fn past_indices(line: &[u8], at: usize, indices: &[u64]) -> Option<usize>
     ensures { After line.now at (closed indices.now) result }
 {
     let mut end = at;
-    let mut i: usize = 0;
-    while i < indices.len() {
-        let next = past_index(line, end, indices[i])?;
-        end = next;
-        i += 1;
+    for index in indices {
+        end = past_index(line, end, *index)?;
     }
     Some(end)
 }
@@ -84,8 +70,7 @@ fn past_front(line: &[u8], place: Place) -> Option<usize>
     ensures { After line.now 0 (front place) result }
 {
     let next = past_word(line, word_of(place))?;
-    let indices = indices_of(place);
-    past_indices(line, next, &indices.numbers[..indices.count])
+    past_indices(line, next, indices_of(place).as_slice())
 }
 
 // Does the quantity at a place say yes or no?

@@ -36,10 +36,7 @@ pub(crate) fn read_places(
 {
     let mut at = from;
     let mut due = walk::first(setup);
-    loop {
-        let Some(place) = due else {
-            return Some(at);
-        };
+    while let Some(place) = due {
         if input.len() <= at {
             return None;
         }
@@ -49,4 +46,5 @@ pub(crate) fn read_places(
         at = after_line(input, end);
         due = walk::next(setup, place);
     }
+    Some(at)
 }

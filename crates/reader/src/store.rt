@@ -1,12 +1,10 @@
 // A quantity stored at a place of a machine whose parts are lent (02, request 2).
-ghost use Rattle.std.specs.Prelude.{◌≡◌, [], ◌+◌, ◌*◌, ◌<◌, get_or, set};
+ghost use Rattle.std.specs.Prelude.{◌≡◌, [], ◌+◌, ◌*◌, ◌<◌, get_or, length, set};
 ghost use Rattle.word.specs.Field.{put as put_bits};
 ghost use Rattle.processor.specs.Record.{level_words, record_words};
 ghost use Rattle.reader.specs.Slots.{Room, parts_with, stored};
 
-use model::quantity::{Level, Page, Processor};
-use partition::level::Levels;
-use partition::mask::Masks;
+use model::quantity::{Level, Processor};
 use processor::record;
 use processor::record::Record;
 use records::place::Place;
@@ -23,61 +21,20 @@ const CONFIGS: u64 = 2;
 // The shared register r stands at r - SHARED_GAP of a record: the first, 12, at word 2.
 const SHARED_GAP: u64 = 10;
 
-// Stores a word of the levels, of the masks and of the pages.
-fn set_level_word(levels: &mut Levels, index: u64, value: u64)
-    requires { index < 6 }
-    ensures { levels.new ≡ set levels.old index value }
+// Stores a word: of the levels, of the masks, of the pages or of a processor's record.
+fn set_word(words: &mut [u64], index: u64, value: u64)
+    requires { index < length words.old }
+    ensures { words.new ≡ set words.old index value }
 {
-    let words: &mut [u64] = levels;
-    let i = index as usize;
-    words[i] = value;
+    words[index as usize] = value;
 }
 
-fn set_mask_word(masks: &mut Masks, index: u64, value: u64)
-    requires { index < 256 }
-    ensures { masks.new ≡ set masks.old index value }
+// Stores a level's bit in a word that is a set of levels.
+fn set_level_bit(words: &mut [u64], index: usize, level: Level, value: u64)
+    requires { (index < length words.old) × (level.0 < 4) }
+    ensures { words.new ≡ set words.old index (put_bits level.0 1 (get_or words.old index 0) value) }
 {
-    let words: &mut [u64] = masks;
-    let i = index as usize;
-    words[i] = value;
-}
-
-fn set_page_word(pages: &mut [u64; 64], page: Page, value: u64)
-    requires { page.0 < 64 }
-    ensures { pages.new ≡ set pages.old page.0 value }
-{
-    let words: &mut [u64] = pages;
-    let i = page.0 as usize;
-    words[i] = value;
-}
-
-// Stores a level's bit in one of the two sets of levels.
-fn set_level_flag(levels: &mut Levels, index: usize, level: Level, value: u64)
-    requires { (index < 2) × (level.0 < 4) }
-    ensures { levels.new
-        ≡ set levels.old index (put_bits level.0 1 (get_or levels.old index 0) value) }
-{
-    let words: &mut [u64] = levels;
     words[index] = put(words[index], level.0 as u32, 1, value);
-}
-
-// The same in the record of a processor.
-fn set_record_word(vp: &mut Record, index: u64, value: u64)
-    requires { index < record_words }
-    ensures { vp.new ≡ set vp.old index value }
-{
-    let words: &mut [u64] = vp;
-    let i = index as usize;
-    words[i] = value;
-}
-
-fn set_enabled(vp: &mut Record, level: Level, value: u64)
-    requires { level.0 < 4 }
-    ensures { vp.new
-        ≡ set vp.old 1 (put_bits level.0 1 (get_or vp.old 1 0) value) }
-{
-    let words: &mut [u64] = vp;
-    words[record::ENABLED] = put(words[record::ENABLED], level.0 as u32, 1, value);
 }
 
 // The same among the records of four processors.
@@ -86,8 +43,7 @@ fn set_in(vps: &mut [Record; 4], vp: Processor, index: u64, value: u64)
     ensures { vps.new
         ≡ set vps.old vp.0 (set (get_or vps.old vp.0 []) index value) }
 {
-    let i = vp.0 as usize;
-    set_record_word(&mut vps[i], index, value);
+    set_word(&mut vps[vp.0 as usize], index, value);
 }
 
 fn set_enabled_in(vps: &mut [Record; 4], vp: Processor, level: Level, value: u64)
@@ -95,8 +51,7 @@ fn set_enabled_in(vps: &mut [Record; 4], vp: Processor, level: Level, value: u64
     ensures { let row = get_or vps.old vp.0 [] in vps.new
         ≡ set vps.old vp.0 (set row 1 (put_bits level.0 1 (get_or row 1 0) value)) }
 {
-    let i = vp.0 as usize;
-    set_enabled(&mut vps[i], level, value);
+    set_level_bit(&mut vps[vp.0 as usize], record::ENABLED, level, value);
 }
 
 // The place in a record of the word at an offset in a level's row.
@@ -109,15 +64,16 @@ fn in_row(level: Level, offset: u64) -> u64
 }
 
 // Stores the quantity at a place.
+#[tactic(auto, unfolding(crate::specs::Slots::Room, crate::specs::Slots::slot_of))]
 pub(crate) fn store(parts: &mut Parts, words: &mut [u64; 64], place: Place, x: u64)
     requires { Room place }
     ensures { parts_with parts.new words.new ≡ stored place x (parts_with parts.old words.old) }
 {
     let Parts { levels, masks, vps } = parts;
     match place {
-        Place::PartitionEnabled(t) => set_level_flag(levels, ENABLED, t, x),
-        Place::Mbec(t) => set_level_flag(levels, MBEC, t, x),
-        Place::Config(t) => set_level_word(levels, CONFIGS + t.0, x),
+        Place::PartitionEnabled(t) => set_level_bit(levels, ENABLED, t, x),
+        Place::Mbec(t) => set_level_bit(levels, MBEC, t, x),
+        Place::Config(t) => set_word(levels, CONFIGS + t.0, x),
         Place::Active(v) => set_in(vps, v, record::ACTIVE as u64, x),
         Place::Shared(v, r) => set_in(vps, v, r - SHARED_GAP, x),
         Place::Register(v, l, r) => set_in(vps, v, in_row(l, r), x),
@@ -129,8 +85,8 @@ pub(crate) fn store(parts: &mut Parts, words: &mut [u64; 64], place: Place, x: u
         Place::From(v, l) => set_in(vps, v, in_row(l, record::FROM), x),
         Place::Rax(v, l) => set_in(vps, v, in_row(l, record::SAVED_RAX), x),
         Place::Rcx(v, l) => set_in(vps, v, in_row(l, record::SAVED_RCX), x),
-        Place::Word(p) => set_page_word(words, p, x),
-        Place::Mask(p, t) => set_mask_word(masks, 4 * p.0 + t.0, x),
+        Place::Word(p) => set_word(words, p.0, x),
+        Place::Mask(p, t) => set_word(masks, 4 * p.0 + t.0, x),
         Place::Intercepts(v, l) => set_in(vps, v, in_row(l, record::INTERCEPTS), x),
         Place::Cr0Mask(v, l) => set_in(vps, v, in_row(l, record::CR0_MASK), x),
         Place::Cr4Mask(v, l) => set_in(vps, v, in_row(l, record::CR4_MASK), x),

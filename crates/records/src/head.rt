@@ -1,9 +1,10 @@
 // What stands in a record before its number (head_of of specs/RecordTexts.antt): its word and its indices.
-ghost use Rattle.std.specs.Prelude.{[], ◌∷◌, ◌++◌, ◌≡◌, ◌≤◌, length, take};
+ghost use Rattle.std.specs.Prelude.{List, [], ◌∷◌, ◌++◌, ◌≡◌, ℕ, ◌≤◌, take};
 ghost use Rattle.records.specs.RecordTexts.{head_of};
 ghost use Rattle.script.specs.LineForms.{tab};
 
 use crate::place::Place;
+use std::marker::Model;
 
 // The third index of `crm`: for CR0 and for CR4.
 const OF_CR0: u64 = 0;
@@ -11,10 +12,27 @@ const OF_CR0: u64 = 0;
 const OF_CR4: u64 = 4;
 
 // At most three indices: the first `count` numbers.
-#[derive(Clone, Copy)]
+#[derive(Drop)]
 pub struct Indices {
-    pub numbers: [u64; 3],
-    pub count: usize,
+    numbers: [u64; 3],
+    count: usize,
+}
+
+impl Model for Indices {
+    ghost Value = { List ℕ };
+
+    ghost view = { λ i. take i.count i.numbers };
+
+    ghost invariant = { λ i. i.count ≤ 3 };
+}
+
+impl Indices {
+    // The indices, one behind the other.
+    pub fn as_slice(&self) -> &[u64]
+        ensures { result.now ≡ self.now }
+    {
+        &self.numbers[..self.count]
+    }
 }
 
 // The word of a place's record, with its tab.
@@ -47,8 +65,7 @@ pub fn word_of(place: Place) -> &'static [u8]
 
 // One index, two and three.
 fn one(a: u64) -> Indices
-    ensures numbers { take result.count result.numbers ≡ a ∷ [] }
-    ensures within { result.count ≤ length result.numbers }
+    ensures { result ≡ a ∷ [] }
 {
     Indices {
         numbers: [a, 0, 0],
@@ -57,8 +74,7 @@ fn one(a: u64) -> Indices
 }
 
 fn two(a: u64, b: u64) -> Indices
-    ensures numbers { take result.count result.numbers ≡ a ∷ b ∷ [] }
-    ensures within { result.count ≤ length result.numbers }
+    ensures { result ≡ a ∷ b ∷ [] }
 {
     Indices {
         numbers: [a, b, 0],
@@ -67,8 +83,7 @@ fn two(a: u64, b: u64) -> Indices
 }
 
 fn three(a: u64, b: u64, c: u64) -> Indices
-    ensures numbers { take result.count result.numbers ≡ a ∷ b ∷ c ∷ [] }
-    ensures within { result.count ≤ length result.numbers }
+    ensures { result ≡ a ∷ b ∷ c ∷ [] }
 {
     Indices {
         numbers: [a, b, c],
@@ -79,8 +94,7 @@ fn three(a: u64, b: u64, c: u64) -> Indices
 // The indices of a place's record.
 #[tactic(auto, unfolding(crate::specs::RecordTexts::head_of))]
 pub fn indices_of(place: Place) -> Indices
-    ensures numbers { take result.count result.numbers ≡ (head_of place).indices }
-    ensures within { result.count ≤ length result.numbers }
+    ensures { result ≡ (head_of place).indices }
 {
     match place {
         Place::PartitionEnabled(t) => one(t.0),

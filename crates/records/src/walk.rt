@@ -23,6 +23,7 @@ fn private_count(shape: Shape) -> u64
 }
 
 // The levels from 1 of all processors: the first one from a processor on, and the one after a level of a processor.
+#[tactic(auto, unfolding(model::specs::State::top))]
 fn upper_from(setup: Setup, vp: Processor) -> Option<(Processor, Level)>
     ensures { result ≡ upper_from setup vp.0 }
 {
@@ -32,6 +33,7 @@ fn upper_from(setup: Setup, vp: Processor) -> Option<(Processor, Level)>
     None
 }
 
+#[tactic(auto, unfolding(crate::specs::Walk::upper_at, model::specs::State::top))]
 fn upper_after(setup: Setup, vp: Processor, level: Level) -> Option<(Processor, Level)>
     ensures { result ≡ upper_at setup vp (level.0 + 1) }
 {
@@ -47,10 +49,7 @@ fn upper_after(setup: Setup, vp: Processor, level: Level) -> Option<(Processor, 
 fn to_cr_mask(upper: Option<(Processor, Level)>) -> Option<Place>
     ensures { result ≡ to_cr_mask upper }
 {
-    match upper {
-        Some((v, t)) => Some(Place::Cr0Mask(v, t)),
-        None => None,
-    }
+    upper.map(|(v, t)| Place::Cr0Mask(v, t))
 }
 
 fn to_intercepts(setup: Setup, upper: Option<(Processor, Level)>) -> Option<Place>
@@ -62,6 +61,7 @@ fn to_intercepts(setup: Setup, upper: Option<(Processor, Level)>) -> Option<Plac
     }
 }
 
+#[tactic(auto, unfolding(crate::specs::Walk::to_page))]
 fn to_page(setup: Setup, page: Page) -> Option<Place>
     ensures { result ≡ to_page setup page.0 }
 {
@@ -71,6 +71,7 @@ fn to_page(setup: Setup, page: Page) -> Option<Place>
     to_intercepts(setup, upper_from(setup, Processor(0)))
 }
 
+#[tactic(auto, unfolding(crate::specs::Walk::to_page))]
 fn after_page(setup: Setup, page: Page) -> Option<Place>
     ensures { result ≡ to_page setup (page.0 + 1) }
 {
@@ -80,6 +81,7 @@ fn after_page(setup: Setup, page: Page) -> Option<Place>
     to_intercepts(setup, upper_from(setup, Processor(0)))
 }
 
+#[tactic(auto, unfolding(crate::specs::Walk::to_mask, model::specs::State::top))]
 fn after_mask(setup: Setup, page: Page, level: Level) -> Option<Place>
     ensures { result ≡ to_mask setup page (level.0 + 1) }
 {
@@ -89,6 +91,7 @@ fn after_mask(setup: Setup, page: Page, level: Level) -> Option<Place>
     after_page(setup, page)
 }
 
+#[tactic(auto, unfolding(crate::specs::Walk::to_contexts))]
 fn to_contexts(setup: Setup, vp: Processor) -> Option<Place>
     ensures { result ≡ to_contexts setup vp.0 }
 {
@@ -98,6 +101,7 @@ fn to_contexts(setup: Setup, vp: Processor) -> Option<Place>
     to_page(setup, Page(0))
 }
 
+#[tactic(auto, unfolding(crate::specs::Walk::to_contexts))]
 fn after_contexts(setup: Setup, vp: Processor) -> Option<Place>
     ensures { result ≡ to_contexts setup (vp.0 + 1) }
 {
@@ -107,6 +111,7 @@ fn after_contexts(setup: Setup, vp: Processor) -> Option<Place>
     to_page(setup, Page(0))
 }
 
+#[tactic(auto, unfolding(crate::specs::Walk::to_context, model::specs::State::top))]
 fn after_context(setup: Setup, vp: Processor, level: Level) -> Option<Place>
     ensures { result ≡ to_context setup vp (level.0 + 1) }
 {
@@ -116,6 +121,7 @@ fn after_context(setup: Setup, vp: Processor, level: Level) -> Option<Place>
     after_contexts(setup, vp)
 }
 
+#[tactic(auto, unfolding(crate::specs::Walk::to_register))]
 fn after_register(setup: Setup, vp: Processor, level: Level, register: u64) -> Option<Place>
     ensures { result ≡ to_register setup vp level (register + 1) }
 {
@@ -125,6 +131,7 @@ fn after_register(setup: Setup, vp: Processor, level: Level, register: u64) -> O
     Some(Place::Tpr(vp, level))
 }
 
+#[tactic(auto, unfolding(crate::specs::Walk::to_pending))]
 fn after_pending(setup: Setup, vp: Processor, level: Level, word: u64) -> Option<Place>
     ensures { result ≡ to_pending setup vp level (word + 1) }
 {
@@ -137,6 +144,7 @@ fn after_pending(setup: Setup, vp: Processor, level: Level, word: u64) -> Option
     Some(Place::Enabled(vp, level))
 }
 
+#[tactic(auto, unfolding(crate::specs::Walk::to_secure))]
 fn to_secure(vp: Processor, level: Level, lower: Level) -> Option<Place>
     ensures { result ≡ to_secure vp level lower.0 }
 {
@@ -146,6 +154,7 @@ fn to_secure(vp: Processor, level: Level, lower: Level) -> Option<Place>
     Some(Place::Reason(vp, level))
 }
 
+#[tactic(auto, unfolding(crate::specs::Walk::to_secure))]
 fn after_secure(vp: Processor, level: Level, lower: Level) -> Option<Place>
     ensures { result ≡ to_secure vp level (lower.0 + 1) }
 {
@@ -155,6 +164,7 @@ fn after_secure(vp: Processor, level: Level, lower: Level) -> Option<Place>
     Some(Place::Reason(vp, level))
 }
 
+#[tactic(auto, unfolding(crate::specs::Walk::to_processor))]
 fn to_processor(setup: Setup, vp: Processor) -> Option<Place>
     ensures { result ≡ to_processor setup vp.0 }
 {
@@ -164,6 +174,7 @@ fn to_processor(setup: Setup, vp: Processor) -> Option<Place>
     to_contexts(setup, Processor(0))
 }
 
+#[tactic(auto, unfolding(crate::specs::Walk::to_processor))]
 fn after_processor(setup: Setup, vp: Processor) -> Option<Place>
     ensures { result ≡ to_processor setup (vp.0 + 1) }
 {
@@ -173,6 +184,7 @@ fn after_processor(setup: Setup, vp: Processor) -> Option<Place>
     to_contexts(setup, Processor(0))
 }
 
+#[tactic(auto, unfolding(crate::specs::Walk::to_shared))]
 fn after_shared(setup: Setup, vp: Processor, register: u64) -> Option<Place>
     ensures { result ≡ to_shared setup vp (register + 1) }
 {
@@ -182,6 +194,7 @@ fn after_shared(setup: Setup, vp: Processor, register: u64) -> Option<Place>
     after_processor(setup, vp)
 }
 
+#[tactic(auto, unfolding(crate::specs::Walk::to_level, model::specs::State::top))]
 fn after_level(setup: Setup, level: Level) -> Option<Place>
     ensures { result ≡ to_level setup (level.0 + 1) }
 {

@@ -27,7 +27,7 @@ use Rattle.records.specs.declared.place.Place.{Place}
 use Rattle.records.specs.declared.place.Place.TheVariants.{PartitionEnabled, Mbec, Config, Active, Shared, Register, Tpr, Pending, Enabled, Secure, Reason, From, Rax, Rcx, Word, Mask, Intercepts, Cr0Mask, Cr4Mask}
 use Rattle.records.specs.Places.{known, upper, has}
 use Rattle.records.specs.Values.{number, value_at}
-use Rattle.records.proofs.Limits.{limits}
+use Rattle.records.proofs.Limits.{Limits, limits}
 use Rattle.records.proofs.Sequence.{first_two}
 use Rattle.records.proofs.Tables.{number-get}
 
@@ -116,3 +116,11 @@ module _ (c : Setup) (levels masks : List ℕ) (rows : List (List ℕ)) (words :
   kept (Cr4Mask v l) h = sym (ap (λ (k : Context). k.watch.cr4_mask) (upper-kept v l h (limits c (Cr4Mask v l) h).1) ∙ row_word (row v) l.0 cr4_mask_index (omega arith))
   kept (Word p) h = refl
   kept (Mask p t) h = refl
+
+  -- The same of a place that is known by its variant.
+  pub kept_as : (p q : Place) → has c p ≡ true → p ≡ q → kept_at q ≡ value_at S p
+  kept_as p q h e = ap kept_at (sym e) ∙ kept p h
+
+-- The bounds of a place that is known by its variant.
+pub limits_of : (c : Setup) (p q : Place) → has c p ≡ true → p ≡ q → Limits c q
+limits_of c p q h e = rw e at (limits c p h)

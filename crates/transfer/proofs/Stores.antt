@@ -1,25 +1,24 @@
 -- Laws of texts that are written into a buffer one after the other. Assumes nothing.
 use mathlib.Core.Path.{◌≡◌, sym, ap, ◌∙◌}
-use mathlib.Core.List.{List, [], ◌∷◌, ◌++◌}
-use Prim.Native.Nat.{ℕ, zero, suc, ◌+◌, ◌≤◌, ◌<◌}
-use native.Mathlib.Numerals.{add-one}
+use mathlib.Core.List.{List, [], ◌∷◌, ◌++◌, append_assoc}
+use Prim.Native.Nat.{ℕ, zero, suc, ◌+◌, ◌-◌, ◌≤◌, ◌<◌}
+use borrow.Rule.Slice.PartMut.{put_mid}
 use native.Mathlib.Omega.{arith}
-use lib.ListN.{length, length-append, get_or, set, take}
-use lib.Seq.{length-take-le, sets, take-suc}
+use lib.ListN.{drop, length, length-append, get_or, take}
+use lib.Seq.{drop-drop, sets, sets-eq}
 use Rattle.records.specs.RecordTexts.{closed}
 use Rattle.script.proofs.Cells.{Written, written-length}
-use Rattle.script.proofs.StoredTexts.{sets-append}
 use Rattle.script.specs.LineForms.{tab}
 use Rattle.script.specs.ListingLine.{cell}
 
--- One byte more of a word.
-pub put_step : (out : List ℕ) (at : ℕ) (word : List ℕ) (i : ℕ) → i < length word
-    → set (sets out at (take i word)) (at + i) (get_or word i 0) ≡ sets out at (take (i + 1) word)
-put_step out at word i h =
-    let len : length (take i word) ≡ i = length-take-le i word (omega arith) in
-    ap (λ (j : ℕ). set (sets out at (take i word)) (at + j) (get_or word i 0)) (sym len)
-    ∙ sets-append (take i word) out at (get_or word i 0 ∷ [])
-    ∙ ap (sets out at) (sym (take-suc word i 0 h) ∙ ap (λ (j : ℕ). take j word) (sym (add-one i)))
+-- Bytes copied over a part of the buffer.
+pub put_over : (out : List ℕ) (at : ℕ) (word part : List ℕ) → at + length word ≤ length out → part ≡ word
+    → put_mid at (at + length word - at) out part ≡ sets out at word
+put_over out at word part room e =
+    let size : at + length word - at ≡ length word = omega arith in
+    rw (e, size, sets-eq word out at room)
+    (ap (λ (l : List ℕ). take at out ++ (word ++ l)) (drop-drop (length word) at out)
+    ∙ sym (append_assoc (take at out) word (drop (at + length word) out)))
 
 -- One number more with its tab has room where all have.
 pub closed-room : (numbers : List ℕ) (i : ℕ) → i < length numbers

@@ -6,9 +6,8 @@ ghost use Rattle.records.specs.Places.{has};
 ghost use Rattle.records.specs.Values.{number as number_of, value_at};
 ghost use Rattle.state.specs.Lent.{state_of};
 
-use crate::record_text::number;
 use model::machine::Setup;
-use model::quantity::{Level, Page, Processor};
+use model::quantity::{Level, Processor};
 use model::register::DR6;
 use model::set::{LevelSet, in_set};
 use partition::level::{config_at, enabled_for, mbec_for};
@@ -17,15 +16,14 @@ use processor::record;
 use processor::record::Record;
 use records::place::Place;
 use state::parts::Parts;
+use word::field::one_if;
 
-// A word of a processor's record.
-fn word_of(vp: &Record, i: u64) -> u64
-    requires { i < record_words }
-    ensures { result ≡ get_or vp.now i 0 }
+// A word of a slice.
+fn word_at(words: &[u64], i: u64) -> u64
+    requires { i < length words.now }
+    ensures { result ≡ get_or words.now i 0 }
 {
-    let words: &[u64] = vp;
-    let at = i as usize;
-    words[at]
+    words[i as usize]
 }
 
 // A word of the record of a processor.
@@ -33,8 +31,7 @@ fn record_word(vps: &[Record; 4], vp: Processor, i: u64) -> u64
     requires { (vp.0 < 4) × (i < record_words) }
     ensures { result ≡ get_or (get_or vps.now vp.0 []) i 0 }
 {
-    let at = vp.0 as usize;
-    word_of(&vps[at], i)
+    word_at(&vps[vp.0 as usize], i)
 }
 
 // The word at an offset in the row of a level.
@@ -54,19 +51,10 @@ fn is_enabled(vps: &[Record; 4], vp: Processor, level: Level) -> u64
     requires { vp.0 < 4 }
     ensures { result ≡ number_of (bit (get_or (get_or vps.now vp.0 []) 1 0) level.0) }
 {
-    number(in_set(
+    one_if(in_set(
         LevelSet(record_word(vps, vp, record::ENABLED as u64)),
         level,
     ))
-}
-
-// The word of a page.
-fn page_word(words: &[u64], page: Page) -> u64
-    requires { page.0 < length words.now }
-    ensures { result ≡ get_or words.now page.0 0 }
-{
-    let at = page.0 as usize;
-    words[at]
 }
 
 // The quantity at a place that the machine has.
@@ -77,8 +65,8 @@ pub(crate) fn quantity(setup: Setup, parts: &Parts, words: &[u64], place: Place)
     let Parts { levels, masks, vps } = parts;
     let shape = setup.shape;
     match place {
-        Place::PartitionEnabled(t) => number(enabled_for(shape, levels, t)),
-        Place::Mbec(t) => number(mbec_for(shape, levels, t)),
+        Place::PartitionEnabled(t) => one_if(enabled_for(shape, levels, t)),
+        Place::Mbec(t) => one_if(mbec_for(shape, levels, t)),
         Place::Config(t) => config_at(shape, levels, t),
         Place::Active(v) => record_word(vps, v, record::ACTIVE as u64),
         Place::Shared(v, r) => record_word(vps, v, record::SHARED + (r - DR6)),
@@ -91,7 +79,7 @@ pub(crate) fn quantity(setup: Setup, parts: &Parts, words: &[u64], place: Place)
         Place::From(v, l) => row_word(vps, v, l, record::FROM),
         Place::Rax(v, l) => row_word(vps, v, l, record::SAVED_RAX),
         Place::Rcx(v, l) => row_word(vps, v, l, record::SAVED_RCX),
-        Place::Word(p) => page_word(words, p),
+        Place::Word(p) => word_at(words, p.0),
         Place::Mask(p, t) => mask_at(shape, setup.pages, masks, t, p),
         Place::Intercepts(v, l) => row_word(vps, v, l, record::INTERCEPTS),
         Place::Cr0Mask(v, l) => row_word(vps, v, l, record::CR0_MASK),

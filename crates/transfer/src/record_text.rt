@@ -3,20 +3,13 @@
 ghost use Rattle.std.specs.Prelude.{◌++◌, ◌≡◌, ◌+◌, ◌≤◌, length};
 ghost use Rattle.std.proofs.lemmas.List.Edits.{sets};
 ghost use Rattle.records.specs.RecordTexts.{closed, front as front_text};
-ghost use Rattle.records.specs.Values.{number as number_of};
 ghost use Rattle.script.specs.ListingLine.{cell};
 ghost use Rattle.transfer.specs.Sent.{first_record_text, record_text};
 
 use model::machine::Setup;
 use records::head::{indices_of, word_of};
 use records::place::Place;
-
-// 1 for yes, 0 for no.
-pub(crate) fn number(flag: bool) -> u64
-    ensures { result ≡ number_of flag }
-{
-    if flag { 1 } else { 0 }
-}
+use word::field::one_if;
 
 // Copies bytes into `out` from `at` on, and returns the place after them.
 pub(crate) fn put(out: &mut [u8], at: usize, bytes: &[u8]) -> usize
@@ -24,12 +17,9 @@ pub(crate) fn put(out: &mut [u8], at: usize, bytes: &[u8]) -> usize
     ensures value { result ≡ at + length bytes.now }
     ensures out_after { out.new ≡ sets out.old at bytes.now }
 {
-    let mut i: usize = 0;
-    while i < bytes.len() {
-        out[at + i] = bytes[i];
-        i += 1;
-    }
-    at + i
+    let end = at + bytes.len();
+    out[at..end].copy_from_slice(bytes);
+    end
 }
 
 // Writes a number and the byte `closing`.
@@ -50,10 +40,8 @@ fn write_closed(out: &mut [u8], at: usize, numbers: &[u64]) -> usize
     ensures out_after { out.new ≡ sets out.old at (closed numbers.now) }
 {
     let mut end = at;
-    let mut i: usize = 0;
-    while i < numbers.len() {
-        end = write_cell(out, end, numbers[i], b'\t');
-        i += 1;
+    for number in numbers {
+        end = write_cell(out, end, *number, b'\t');
     }
     end
 }
@@ -75,8 +63,7 @@ fn write_front(out: &mut [u8], at: usize, place: Place) -> usize
     ensures value { result ≡ at + length (front_text place) }
     ensures out_after { out.new ≡ sets out.old at (front_text place) }
 {
-    let indices = indices_of(place);
-    write_head(out, at, word_of(place), &indices.numbers[..indices.count])
+    write_head(out, at, word_of(place), indices_of(place).as_slice())
 }
 
 // Writes the record of a place with the quantity `value`.
@@ -100,9 +87,9 @@ pub(crate) fn write_first(out: &mut [u8], setup: Setup) -> usize
         setup.processors,
         shape.max_level.0,
         setup.pages,
-        number(shape.dr6_shared),
+        one_if(shape.dr6_shared),
         setup.host_mask,
     ];
     let end = write_head(out, 0, b"vsm\t", &numbers);
-    write_cell(out, end, number(shape.smep), b'\n')
+    write_cell(out, end, one_if(shape.smep), b'\n')
 }

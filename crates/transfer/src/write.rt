@@ -27,14 +27,12 @@ fn write_places(out: &mut [u8], start: usize, setup: Setup, parts: &Parts, words
 {
     let mut at = start;
     let mut due = walk::first(setup);
-    loop {
-        let Some(place) = due else {
-            return at;
-        };
+    while let Some(place) = due {
         let value = quantity(setup, parts, words, place);
         at = write_record(out, at, place, value);
         due = walk::next(setup, place);
     }
+    at
 }
 
 // Writes all records at the start of a buffer that has room for them, and returns how many bytes they take.
@@ -48,20 +46,13 @@ fn write_all(out: &mut [u8], setup: Setup, parts: &Parts, words: &[u64]) -> usiz
     write_places(out, end, setup, parts, words)
 }
 
-// A buffer that has room for the records of every well-formed machine.
-fn blank() -> [u8; LONGEST_TEXT]
-    ensures { longest_text ≡ length result }
-{
-    [0; LONGEST_TEXT]
-}
-
 // Writes all records at the start of a buffer of any size, by way of one that has room; nothing where they have none.
 fn write_within(out: &mut [u8], setup: Setup, parts: &Parts, words: &[u64]) -> usize
     requires { well_formed (state_of setup parts.now words.now) ≡ true }
     ensures value { result ≡ after_text out.old 0 (sent_text (state_of setup parts.now words.now)) }
     ensures out_after { out.new ≡ with_text out.old 0 (sent_text (state_of setup parts.now words.now)) }
 {
-    let mut text = blank();
+    let mut text = [0; LONGEST_TEXT];
     let size = write_all(&mut text, setup, parts, words);
     if out.len() < size {
         return 0;

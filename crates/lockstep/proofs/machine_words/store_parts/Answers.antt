@@ -8,20 +8,16 @@ use Rattle.lockstep.proofs.machine_words.store_parts.Goals as goal
 pub returns : goal.returns
 returns c =
     let a = c.args in
-    let fourth = c.store_record-4.ensures in
-    let third = c.store_record-3.ensures in
-    let second = c.store_record-2.ensures in
-    let first = c.store_record.ensures in
     let rows = a.parts.now.vps in record {
-      stored = rw (fourth.stored, third.stored, second.stored, first.stored, c.store_words-2.ensures, c.store_words.ensures)
+      stored = rw (c.store_words-6.ensures, c.store_words-5.ensures, c.store_words-4.ensures, c.store_words-3.ensures, c.store_words-2.ensures, c.store_words.ensures)
           (parts-stored a.machine.now a.parts.now.levels a.parts.now.masks (get_or rows 0 []) (get_or rows 1 []) (get_or rows 2 []) (get_or rows 3 [])
-          (search rules) (search rules) first.size second.size third.size);
+          (search rules) (search rules) (search rules) (search rules) (search rules));
       sizes = record {
         levels-length = search rules;
         masks-length = search rules;
-        first-length = first.size;
-        second-length = second.size;
-        third-length = third.size;
-        fourth-length = fourth.size;
+        first-length = search rules;
+        second-length = search rules;
+        third-length = search rules;
+        fourth-length = search rules;
       };
     }

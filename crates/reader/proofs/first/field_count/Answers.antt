@@ -1,24 +1,18 @@
--- `first::field_count` meets its contract. The loop's invariant: with the fields from `i` on the count is one more than the line's. The
--- measure is what is left of the line. Assumes nothing.
-use Prim.Native.Nat.{ℕ}
-use mathlib.Core.List.{List, []}
-use mathlib.Core.Path.{◌≡◌, ap}
+-- `first::field_count` meets its contract: a field more than there are tabs. Assumes nothing.
+use Rattle.std.proofs.Common.{rules, tests}
+use Rattle.std.proofs.lemmas.Iterator.{YieldsList-from_slice}
+use Rattle.std.proofs.lemmas.Iterator.Consumers.{count_from_yields_List, YieldsList-from_filter}
+use Rattle.std.specs.Slice.Iter.{iter_rest}
+use mathlib.Core.List.{◌∷◌}
+use mathlib.Core.Path.{ap, ◌∙◌}
 use native.Mathlib.Omega.{arith}
-use lib.ListN.{drop, drop_of_length-le, length}
-use Rattle.script.specs.LineForms.{fields}
-use Rattle.reader.proofs.SevenFields.{fields-other, fields-tab}
+use lib.Dec.{eqb}
+use Rattle.script.specs.LineForms.{tab}
+use Rattle.script.proofs.NumberReading.{counted-after}
 use Rattle.reader.proofs.first.field_count.Goals as goal
-use Rattle.reader.proofs.first.field_count.Goals.{else-line-i-eq9, then-line-i-eq9}
-
-pub loop-i-preserved : goal.loop-i-preserved
-loop-i-preserved c =
-    let l = c.loop-i in
-    let line = c.args.line.now in
-    elim c.if-line-i-eq9.branch [ then-line-i-eq9 w ↦ omega (arith, fields-tab line l.i (omega arith) w.if-line-i-eq9.true) | else-line-i-eq9 w ↦ omega (arith, fields-other line l.i (omega arith) w.if-line-i-eq9.false) ]
 
 pub returns : goal.returns
-unfolding fields
 returns c =
     let line = c.args.line.now in
-    let none : drop c.loop-i.i line ≡ [] = drop_of_length-le line c.loop-i-test.false in
-    omega (arith, ap (λ (l : List ℕ). length (fields l)) none)
+    let tabs = count_from_yields_List c.filter.result _ c.count.ensures.ran (YieldsList-from_filter _ (λ byte. eqb byte tab) (YieldsList-from_slice line (ap iter_rest c.filter.ensures.source ∙ c.iter.ensures.rest)) c.filter.ensures.closure (λ x b q k. search (rules, tests))) in
+    omega (arith, counted-after (tab ∷ line) 0 (omega arith))

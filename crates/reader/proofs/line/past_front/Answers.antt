@@ -14,7 +14,7 @@ returns-in_err-next c =
     (rw (front-parts a.place) at (none_first a.line.now 0 ((head_of a.place).word ++ tab ∷ []) (closed (head_of a.place).indices) said))
 
 pub past_indices-requires-clause-two_digits : goal.past_indices-requires-clause-two_digits
-past_indices-requires-clause-two_digits c = rw c.indices_of-indices.ensures.numbers (room-digits c.args.place c.requires)
+past_indices-requires-clause-two_digits c = rw (c.as_slice.ensures, c.indices_of.ensures) (room-digits c.args.place c.requires)
 
 pub returns : goal.returns
 returns c =
@@ -22,4 +22,4 @@ returns c =
     let said = rw (c.word_of.ensures, c.in_ok-next.was) at c.past_word.ensures in
     rw (front-parts a.place) at
     (both a.line.now 0 ((head_of a.place).word ++ tab ∷ []) (closed (head_of a.place).indices) c.past_indices.result said
-    (rw c.indices_of-indices.ensures.numbers at c.past_indices.ensures))
+    (rw (c.as_slice.ensures, c.indices_of.ensures) at c.past_indices.ensures))

@@ -16,8 +16,8 @@ pub loop-due-init : goal.loop-due-init
 loop-due-init c =
     rw c.first-due.ensures (reads-start c.requires.few c.requires.from_in_bounds c.requires.words_value)
 
-pub returns-in_default : goal.returns-in_default
-returns-in_default c =
+pub returns : goal.returns
+returns c =
     let d = reads-done (rw c.in_default.is at c.loop-due.invariant) in
     (d.gives, d.place.0, d.place.1, d.passes)
 

@@ -21,13 +21,13 @@ loop-due-init c =
     let few : Small c.args.setup = small (S) c.requires.words_value in
     rw c.first-due.ensures (left-start c.args.setup (value_at (S)) c.args.out.now c.args.start (few))
 
-pub shape_of-out-in_default : goal.shape_of-out-in_default
-shape_of-out-in_default c =
+pub shape_of-out : goal.shape_of-out
+shape_of-out c =
     written-length c.args.out.now c.args.start c.loop-due.invariant.done c.loop-due.invariant.wrote
 
-pub returns-in_default : goal.returns-in_default
+pub returns : goal.returns
 unfolding places_text machine_of
-returns-in_default c =
+returns c =
     let S : State = lent c.args.setup c.args.parts.now.levels c.args.parts.now.masks c.args.parts.now.vps c.args.words.now in
     left-done c.args.setup (value_at (S)) c.args.out.now c.args.start c.loop-due.out c.loop-due.at (rw c.in_default.is at c.loop-due.invariant)
 

@@ -1,8 +1,8 @@
 -- `write::write_within` meets its contract: the text is written where it has room, and copied from there. Assumes nothing.
 use mathlib.Core.Path.{◌≡◌, sym, ap, ◌∙◌}
-use Prim.Native.Nat.{◌≤◌}
+use Prim.Native.Nat.{ℕ, ◌≤◌}
 use native.Mathlib.Omega.{arith}
-use lib.ListN.{length, take}
+use lib.ListN.{length, length-replicate, replicate, take}
 use lib.Seq.{length-sets, sets}
 use Rattle.model.specs.State.{State}
 use Rattle.records.specs.RecordTexts.{records_text}
@@ -24,8 +24,8 @@ slice_bounds-text-end c =
       c.write_all-size.ensures.value,
       short-text (S) c.requires,
       ap length c.write_all-size.ensures.out_after,
-      length-sets c.blank-text.result 0 (records_text (S)),
-      c.blank-text.ensures,
+      length-sets (replicate 65536 0) 0 (records_text (S)),
+      length-replicate {A = ℕ} 65536 0,
     ) in
     inside
 
@@ -37,12 +37,12 @@ slice_bounds-put-end c =
       c.write_all-size.ensures.value,
       short-text (S) c.requires,
       ap length c.write_all-size.ensures.out_after,
-      length-sets c.blank-text.result 0 (records_text (S)),
-      c.blank-text.ensures,
+      length-sets (replicate 65536 0) 0 (records_text (S)),
+      length-replicate {A = ℕ} 65536 0,
     ) in
     let text : take c.write_all-size.result c.write_all-size.new.out ≡ records_text (S) = let e = c.write_all-size.ensures.out_after in
-    let room : c.write_all-size.result ≤ length (sets c.blank-text.result 0 (records_text (S))) = omega (arith, inside, ap length e) in
-    ap (take c.write_all-size.result) e ∙ taken_out c.blank-text.result (records_text (S)) c.write_all-size.result c.write_all-size.ensures.value room in
+    let room : c.write_all-size.result ≤ length (sets (replicate 65536 0) 0 (records_text (S))) = omega (arith, inside, ap length e) in
+    ap (take c.write_all-size.result) e ∙ taken_out (replicate 65536 0) (records_text (S)) c.write_all-size.result c.write_all-size.ensures.value room in
     c.write_all-size.ensures.value ∙ sym (ap length (text))
 
 pub put-requires : goal.put-requires
@@ -53,12 +53,12 @@ put-requires c =
       c.write_all-size.ensures.value,
       short-text (S) c.requires,
       ap length c.write_all-size.ensures.out_after,
-      length-sets c.blank-text.result 0 (records_text (S)),
-      c.blank-text.ensures,
+      length-sets (replicate 65536 0) 0 (records_text (S)),
+      length-replicate {A = ℕ} 65536 0,
     ) in
     let text : take c.write_all-size.result c.write_all-size.new.out ≡ records_text (S) = let e = c.write_all-size.ensures.out_after in
-    let room : c.write_all-size.result ≤ length (sets c.blank-text.result 0 (records_text (S))) = omega (arith, inside, ap length e) in
-    ap (take c.write_all-size.result) e ∙ taken_out c.blank-text.result (records_text (S)) c.write_all-size.result c.write_all-size.ensures.value room in
+    let room : c.write_all-size.result ≤ length (sets (replicate 65536 0) 0 (records_text (S))) = omega (arith, inside, ap length e) in
+    ap (take c.write_all-size.result) e ∙ taken_out (replicate 65536 0) (records_text (S)) c.write_all-size.result c.write_all-size.ensures.value room in
     omega (arith, ap length (text), c.write_all-size.ensures.value, c.if-out-size.false)
 
 pub returns : goal.returns
@@ -69,12 +69,12 @@ returns c =
       c.write_all-size.ensures.value,
       short-text (S) c.requires,
       ap length c.write_all-size.ensures.out_after,
-      length-sets c.blank-text.result 0 (records_text (S)),
-      c.blank-text.ensures,
+      length-sets (replicate 65536 0) 0 (records_text (S)),
+      length-replicate {A = ℕ} 65536 0,
     ) in
     let text : take c.write_all-size.result c.write_all-size.new.out ≡ records_text (S) = let e = c.write_all-size.ensures.out_after in
-    let room : c.write_all-size.result ≤ length (sets c.blank-text.result 0 (records_text (S))) = omega (arith, inside, ap length e) in
-    ap (take c.write_all-size.result) e ∙ taken_out c.blank-text.result (records_text (S)) c.write_all-size.result c.write_all-size.ensures.value room in
+    let room : c.write_all-size.result ≤ length (sets (replicate 65536 0) 0 (records_text (S))) = omega (arith, inside, ap length e) in
+    ap (take c.write_all-size.result) e ∙ taken_out (replicate 65536 0) (records_text (S)) c.write_all-size.result c.write_all-size.ensures.value room in
     let p = c.put.ensures in
     sent-whole (S) c.args.out.now c.requires (omega (arith, c.write_all-size.ensures.value, c.if-out-size.false))
     (omega (arith, p.value, ap length (text))) (p.out_after ∙ ap (sets c.args.out.now 0) (text))
