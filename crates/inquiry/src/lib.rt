@@ -16,7 +16,7 @@ ghost use Rattle.sheet.specs.Verdicts.{refusal};
 
 use access_events::Request;
 use asked::{Asked, asked_by};
-use chunk::{at_most, line_end};
+use chunk::line_end;
 use explanation::Explanation;
 use model::machine::Setup;
 use model::quantity::{Processor, mode_of};
@@ -96,5 +96,5 @@ pub fn explain(input: &[u8], out: &mut [u8; LONGEST_VERDICT]) -> usize
         access: asked.access,
     };
     let explanation = explain_on(&received, asked.vp, request);
-    write_with(out, explanation, input, at_most(end + 1, input.len()))
+    write_with(out, explanation, input, (end + 1).min(input.len()))
 }

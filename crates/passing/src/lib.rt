@@ -25,10 +25,10 @@ pub fn consume(start: Session, chunk: &[u8]) -> Session
 {
     let mut records = piece();
     let mut s = start;
-    let mut from: usize = 0;
-    while from < chunk.len() {
-        let fed = session::feed(s, &chunk[from..], &mut records);
-        from += fed.used;
+    let mut rest = chunk;
+    while !rest.is_empty() {
+        let fed = session::feed(s, rest, &mut records);
+        rest = &rest[fed.used..];
         s = fed.session;
     }
     s

@@ -3,13 +3,12 @@
 #![tactic(auto)]
 
 ghost use Rattle.std.specs.Prelude.{List, ◌≡◌, ℕ};
-ghost use Rattle.reason.specs.Reasons.{cause_of, denied_by, reason_for};
+ghost use Rattle.reason.specs.Reasons.{cause_of, denied_by, is_denial, reason_for};
 ghost use Rattle.state.specs.Lent.{state_of};
 
 use access_events::Request;
 use asked::Asked;
 use explanation::{Explanation, explain_in};
-use listing::refusal_number;
 use model::answer::{Answer, Refusal};
 use model::machine::Setup;
 use model::quantity::mode_of;
@@ -22,11 +21,6 @@ pub use reason_text::write_line;
 
 // A buffer of so many bytes has room for every line of the listing with reasons, with its line feed.
 pub const LONGEST_REASONED: usize = 255;
-
-// The numbers of the refusals of a denied access.
-const NO_RECEIVER: u64 = 10;
-
-const HOST_DENIES: u64 = 11;
 
 // Why a line got its answer.
 #[derive(Clone, Copy)]
@@ -69,6 +63,13 @@ fn denied_by(cause: Option<Explanation>, other: Reason) -> Reason
     }
 }
 
+// Whether a refusal denies an access.
+fn is_denial(refusal: Refusal) -> bool
+    ensures { result ≡ is_denial refusal }
+{
+    matches!(refusal, Refusal::NoReceiver | Refusal::HostDenies)
+}
+
 // The reason for an answer, where `cause` tells of the access that the line asked for in the state before it.
 pub fn reason_for(cause: Option<Explanation>, answer: Answer) -> Reason
     ensures { result ≡ reason_for cause answer }
@@ -77,8 +78,7 @@ pub fn reason_for(cause: Option<Explanation>, answer: Answer) -> Reason
         Answer::Done(value) => Reason::Nothing,
         Answer::Refused(refusal) => {
             let named = Reason::Named(refusal);
-            let number = refusal_number(refusal);
-            if (number == NO_RECEIVER) | (number == HOST_DENIES) {
+            if is_denial(refusal) {
                 return denied_by(cause, named);
             }
             named

@@ -95,8 +95,7 @@ pub fn lent_words(words: &[u64; 64], lent: usize) -> usize
     ensures number { result ≡ min lent 64 }
     ensures size { length words.now ≡ 64 }
 {
-    let all: &[u64] = words;
-    chunk::at_most(lent, all.len())
+    lent.min(words.len())
 }
 
 // Whether a session has stopped after a refused first line: what follows is not read.

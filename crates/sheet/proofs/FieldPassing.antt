@@ -1,4 +1,5 @@
 -- Laws of the way along the fields of a sheet: what is passed, and what that says of the fields. Assumes nothing.
+use Rattle.std.specs.Bool.{then_some}
 use Rattle.std.specs.Prelude.{None, Option, Some}
 use mathlib.Core.Bool.{Bool, true, false, ◌&&◌, ◌||◌, and_assoc, and-false, cond}
 use mathlib.Core.List.{List, [], ◌∷◌}
@@ -25,13 +26,20 @@ module _ (test : List ℕ → Bool) (sheet : List ℕ) (at : ℕ) where
     found : answer ≡ test (field_after sheet at)
     found = rw ends at asked
 
-    pub good-field : answer ≡ true → Some end ≡ passed test sheet at
+    good-field : answer ≡ true → Some end ≡ passed test sheet at
     unfolding passed
     good-field e = rw (lt-ltb at (length sheet) more, ← found, e, ends)
 
-    pub bad-field : answer ≡ false → None ≡ passed test sheet at
+    bad-field : answer ≡ false → None ≡ passed test sheet at
     unfolding passed
     bad-field e = rw (lt-ltb at (length sheet) more, ← found, e)
+
+    pub tested-field : {r : Option ℕ} → r ≡ then_some answer end → r ≡ passed test sheet at
+    tested-field {r} e = go answer refl
+      where
+        go : (t : Bool) → answer ≡ t → r ≡ passed test sheet at
+        go true h = (rw h at e) ∙ good-field h
+        go false h = (rw h at e) ∙ bad-field h
 
 -- What passes stands after the place, and within the sheet.
 abbrev Ahead : List ℕ → ℕ → Option ℕ → Type 0

@@ -55,7 +55,7 @@ fn is_right(sheet: &[u8], explanation: Explanation) -> bool
 {
     let mut text = [0u8; LONGEST_SHEET];
     let size = write_sheet(&mut text, explanation);
-    sheet_form::is_word(sheet, &text[..size])
+    sheet == &text[..size]
 }
 
 // Writes the first line of a verdict at the start of `out`, and returns its length.

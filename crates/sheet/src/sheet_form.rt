@@ -1,37 +1,16 @@
 // The form of a sheet that was filled in by hand (02, request 3). A field is found from tab to tab and handed on as a part of the sheet.
 ghost use Rattle.std.specs.Prelude.{◌≡◌};
-ghost use Rattle.script.specs.Bytes.{same};
 ghost use Rattle.script.specs.NumberRows.{fields_after};
 ghost use Rattle.sheet.specs.PassedFields.{group_passed, is_part, passed};
 ghost use Rattle.sheet.specs.SheetForms.{either, good_form, is_alone, is_groups, is_kind, is_number, is_receiver};
 
 use script::search::find_byte;
 
-// Whether a field has the bytes of a word.
-pub(crate) fn is_word(field: &[u8], word: &[u8]) -> bool
-    ensures { result ≡ same field.now word.now }
-{
-    if field.len() != word.len() {
-        return false;
-    }
-    let mut i: usize = 0;
-    while i < field.len() {
-        if field[i] != word[i] {
-            return false;
-        }
-        i += 1;
-    }
-    true
-}
-
 // Whether a field is one of two words.
 fn is_either(field: &[u8], one: &[u8], other: &[u8]) -> bool
     ensures { result ≡ either one.now other.now field.now }
 {
-    if is_word(field, one) {
-        return true;
-    }
-    is_word(field, other)
+    field == one || field == other
 }
 
 // Whether a field is a whole sheet.
@@ -60,10 +39,7 @@ fn is_number(field: &[u8]) -> bool
 fn is_receiver(field: &[u8]) -> bool
     ensures { result ≡ is_receiver field.now }
 {
-    if is_word(field, b"none") {
-        return true;
-    }
-    is_number(field)
+    field == b"none".as_slice() || is_number(field)
 }
 
 // Whether a field is what stands last in a group, or before that.
@@ -85,10 +61,7 @@ fn pass_part(sheet: &[u8], at: usize, last: bool) -> Option<usize>
     }
     let start = at + 1;
     let end = find_byte(sheet, start, b'\t');
-    if is_part(&sheet[start..end], last) {
-        return Some(end);
-    }
-    None
+    is_part(&sheet[start..end], last).then_some(end)
 }
 
 // The end of the group after the tab at `at`, where there is one.
@@ -107,15 +80,13 @@ fn good_groups(sheet: &[u8], from: usize) -> bool
     ensures { result ≡ is_groups (fields_after sheet.now from) }
 {
     let mut at = from;
-    loop {
-        let Some(end) = pass_group(sheet, at) else {
-            return false;
-        };
+    while let Some(end) = pass_group(sheet, at) {
         if sheet.len() <= end {
             return true;
         }
         at = end;
     }
+    false
 }
 
 // Whether a sheet has the form of one.

@@ -6,7 +6,6 @@ ghost use Rattle.script.specs.LineForms.{fields};
 ghost use Rattle.script.specs.ListingLine.{line_feed};
 
 use crate::sheet_text::put;
-use script::search::find_byte;
 
 // Shows one field with its line feed.
 fn show_field(out: &mut [u8], at: usize, field: &[u8]) -> usize
@@ -26,13 +25,8 @@ pub(crate) fn show_fields(out: &mut [u8], from: usize, sheet: &[u8]) -> usize
     ensures out_after { out.new ≡ sets out.old from (ended (fields sheet.now)) }
 {
     let mut at = from;
-    let mut start: usize = 0;
-    loop {
-        let end = find_byte(sheet, start, b'\t');
-        at = show_field(out, at, &sheet[start..end]);
-        if sheet.len() <= end {
-            return at;
-        }
-        start = end + 1;
+    for field in sheet.split(|byte| *byte == b'\t') {
+        at = show_field(out, at, field);
     }
+    at
 }

@@ -1,13 +1,13 @@
 -- How much room the text of an input takes at most: 84 bytes for each line that ends, and for one more. Assumes nothing.
 use Rattle.std.specs.Prelude.{None, Option, Some}
+use mathlib.Core.Bool.{Bool, true, false, cond}
 use mathlib.Core.List.{List, [], ◌∷◌}
-use mathlib.Core.Path.{◌≡◌, refl, ap}
+use mathlib.Core.Path.{◌≡◌, refl, sym, ap, ◌∙◌}
 use Prim.Native.Nat.{ℕ, suc, ◌+◌, ◌*◌, ◌/◌, ◌≤◌, ◌<◌}
-use borrow.Author.Tests.{eq-eqb, ne_eqb}
-use native.Mathlib.Numerals.{add-one}
 use native.Mathlib.Omega.{arith}
-use lib.ListN.{drop, get_or, length, length-append}
-use lib.Seq.{drop-cons, drop-length}
+use lib.Dec.{eqb}
+use Rattle.std.specs.List.{filter}
+use lib.ListN.{length, length-append}
 use Rattle.listing.specs.Listing.{Answered, answered, first_done, later_records, listing, listing_from, listing_of, number_after, record_of, state_by}
 use Rattle.passing.specs.Passing.{resumed, resumed_from}
 use Rattle.passing.specs.PassingSessions.{opened, opened_by, saved_text}
@@ -99,35 +99,18 @@ saved-at-most (first line) = omega (arith, line-at-most 0 1 0 0)
 saved-at-most (later number s line) = sent-at-most s
 saved-at-most stopped = omega (arith, line-at-most 0 1 0 0)
 
--- The line feeds of a script that were counted up to a place.
-abbrev pub Counted : List ℕ → ℕ → ℕ → Type 0
-Counted script i count = (count + length (lines_in (drop i script)).complete ≡ length (lines_in script).complete) × ((i ≤ length script) × (count ≤ i))
-
+-- An input has as many line feeds as lines that end.
 in-front : (byte : ℕ) (complete : List (List ℕ)) (rest : List ℕ) → length (in_front byte complete rest).complete ≡ length complete
 in-front byte [] rest = refl
 in-front byte (line ∷ more) rest = refl
 
-feed-counted : (byte : ℕ) (bytes : List ℕ) → byte ≡ line_feed → length (lines_in (byte ∷ bytes)).complete ≡ suc (length (lines_in bytes).complete)
+pub feeds-counted : (input : List ℕ) → length (filter (λ byte. eqb byte line_feed) input) ≡ length (lines_in input).complete
 unfolding lines_in
-feed-counted byte bytes e = rw (eq-eqb byte line_feed e)
-
-other-counted : (byte : ℕ) (bytes : List ℕ) → (byte ≡ line_feed → ⊥) → length (lines_in (byte ∷ bytes)).complete ≡ length (lines_in bytes).complete
-unfolding lines_in
-other-counted byte bytes e = rw (ne_eqb byte line_feed e) (in-front byte (lines_in bytes).complete (lines_in bytes).rest)
-
-module _ (script : List ℕ) (i count : ℕ) (w : Counted script i count) (inside : i < length script) where
-  next-byte : length (lines_in (drop i script)).complete ≡ length (lines_in (get_or script i 0 ∷ drop (i + 1) script)).complete
-  next-byte = ap (λ (l : List ℕ). length (lines_in l).complete) (rw add-one (drop-cons script i 0 inside))
-
-  pub counted-feed : get_or script i 0 ≡ line_feed → Counted script (i + 1) (count + 1)
-  counted-feed e = omega (arith, w, next-byte, feed-counted (get_or script i 0) (drop (i + 1) script) e)
-
-  pub counted-other : (get_or script i 0 ≡ line_feed → ⊥) → Counted script (i + 1) count
-  counted-other e = omega (arith, w, next-byte, other-counted (get_or script i 0) (drop (i + 1) script) e)
-
-pub counted-done : (script : List ℕ) (i count : ℕ) → Counted script i count → length script ≤ i → count ≡ length (lines_in script).complete
-unfolding lines_in
-counted-done script i count w end =
-    let last : i ≡ length script = omega (arith, w) in
-    let None : drop i script ≡ [] = rw last (drop-length script) in
-    omega (arith, w, ap (λ (l : List ℕ). length (lines_in l).complete) None)
+feeds-counted [] = refl
+feeds-counted (byte ∷ bytes) = go (eqb byte line_feed) (feeds-counted bytes)
+  where
+    go : (t : Bool) → length (filter (λ byte. eqb byte line_feed) bytes) ≡ length (lines_in bytes).complete
+        → length (cond t (byte ∷ filter (λ byte. eqb byte line_feed) bytes) (filter (λ byte. eqb byte line_feed) bytes))
+        ≡ length (cond t (record { complete = [] ∷ (lines_in bytes).complete; rest = (lines_in bytes).rest }) (in_front byte (lines_in bytes).complete (lines_in bytes).rest)).complete
+    go true h = ap suc h
+    go false h = h ∙ sym (in-front byte (lines_in bytes).complete (lines_in bytes).rest)

@@ -15,15 +15,6 @@ use Rattle.session.proofs.Callers.{front}
 use Rattle.xalevinda.specs.Exports.{at_most_word, size_of}
 use Rattle.xalevinda.specs.StoredListing.{Stored}
 
--- A text was copied over a part of the buffer.
-pub copied : (buffer : List ℕ) (at : ℕ) (text : List ℕ) → at + length text ≤ length buffer
-    → (part : List ℕ) → part ≡ text → put_mid at (at + length text - at) buffer part ≡ with_text buffer at text
-copied buffer at text room part e =
-    let size : at + length text - at ≡ length text = omega arith in
-    rw (e, size, with-room buffer at text room, sets-eq text buffer at room)
-    (ap (λ (l : List ℕ). take at buffer ++ (text ++ l)) (drop-drop (length text) at buffer)
-    ∙ sym (append_assoc (take at buffer) text (drop (at + length text) buffer)))
-
 -- The buffer keeps its length.
 pub with-length : (buffer : List ℕ) (at : ℕ) (text : List ℕ) → length (with_text buffer at text) ≡ length buffer
 unfolding with_text

@@ -38,7 +38,7 @@ pub fn xalevinda_save(script: &[u8], out: &mut [u8]) -> usize
     let start = session::fresh();
     let after = passing::consume(start, script);
     let size = passing::save(after, &mut text);
-    written::put(out, 0, &text[..size]);
+    sheet::put(out, 0, &text[..size]);
     size
 }
 
@@ -59,7 +59,7 @@ pub fn xalevinda_explain(input: &[u8], out: &mut [u8]) -> usize
 {
     let mut said = [0u8; sheet::LONGEST_VERDICT];
     let size = inquiry::explain(input, &mut said);
-    written::put(out, 0, &said[..size]);
+    sheet::put(out, 0, &said[..size]);
     size
 }
 

@@ -5,8 +5,9 @@ ghost use Rattle.reason.specs.ReasonedListing.{reasoned};
 ghost use Rattle.xalevinda.specs.Exports.{size_of};
 ghost use Rattle.xalevinda.specs.StoredListing.{Stored};
 
-use crate::written::{added, put};
+use crate::written::added;
 use reason::LONGEST_REASONED;
+use sheet::put;
 
 // Runs a script. Writes its listing with reasons into `out` where it has room, and returns how many bytes it has. Where it has no room `out`
 // holds parts of it.
@@ -23,8 +24,7 @@ fn write(script: &[u8], out: &mut [u8]) -> usize
         put(out, size, &line[..wrote]);
         size = added(size, wrote);
         at += fed.used;
-        let next = fed.session;
-        s = next;
+        s = fed.session;
     }
     let mut last = [0u8; LONGEST_REASONED];
     let wrote = reasoned::finish(s, &mut last);

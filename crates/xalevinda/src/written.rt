@@ -9,6 +9,7 @@ ghost use Rattle.xalevinda.specs.Exports.{at_most_word, size_of};
 ghost use Rattle.xalevinda.specs.StoredListing.{Stored, text_of};
 
 use session::{LONGEST_RECORD, Session};
+use sheet::put;
 use transfer::write::LONGEST_TEXT;
 
 // What an input begins with: the first line of a script, or the records of a state, which a script without first line follows.
@@ -29,38 +30,14 @@ pub(crate) fn piece() -> [u8; LONGEST_TEXT]
 fn line_feeds(input: &[u8]) -> usize
     ensures { result ≡ length (lines_in input.now).complete }
 {
-    let mut count: usize = 0;
-    let mut i: usize = 0;
-    while i < input.len() {
-        if input[i] == b'\n' {
-            count += 1;
-        }
-        i += 1;
-    }
-    count
+    input.iter().filter(|byte| **byte == b'\n').count()
 }
 
 // The sum, or the largest number where it does not fit.
 pub(crate) fn added(size: usize, more: usize) -> usize
     ensures { result ≡ at_most_word (size + more) }
 {
-    if usize::MAX - size < more {
-        return usize::MAX;
-    }
-    size + more
-}
-
-// Puts a text into `out` from `at` on, or nothing where it has no room.
-pub(crate) fn put(out: &mut [u8], at: usize, text: &[u8])
-    ensures { out.new ≡ with_text out.old at text.now }
-{
-    if out.len() < at {
-        return;
-    }
-    if out.len() - at < text.len() {
-        return;
-    }
-    out[at..at + text.len()].copy_from_slice(text);
+    size.saturating_add(more)
 }
 
 // Feeds a script, or what is left of one, to a session, and ends it. Writes its records into `out` from `begun` on where they have room,
@@ -79,8 +56,7 @@ fn write(start: Session, script: &[u8], out: &mut [u8], begun: usize) -> usize
         put(out, size, &records[..wrote]);
         size = added(size, wrote);
         at += fed.used;
-        let next = fed.session;
-        s = next;
+        s = fed.session;
     }
     let mut last = [0u8; LONGEST_RECORD];
     let ended = session::finish(s, &mut last);

@@ -39,8 +39,8 @@ overflow_add-end c =
 
 pub returns : goal.returns
 returns c =
-    rw (by-access c.read.result c.args.input.now c.read.ensures.passed c.in-Some.received c.in-Some.is c.line_end-end.result c.line_end-end.ensures (omega (arith, c.if-input-used.false)), ← c.access_line.ensures, c.in-Some-access_line.is, ← c.mode_of.ensures, ← c.explain_on-explanation.ensures, ← c.at_most.ensures)
+    rw (by-access c.read.result c.args.input.now c.read.ensures.passed c.in-Some.received c.in-Some.is c.line_end-end.result c.line_end-end.ensures (omega (arith, c.if-input-used.false)), ← c.access_line.ensures, c.in-Some-access_line.is, ← c.mode_of.ensures, ← c.explain_on-explanation.ensures, ← c.min.ensures)
     (in_parts c.write_with.ensures)
 
 pub write_with-requires : goal.write_with-requires
-write_with-requires c = omega (arith, c.at_most.ensures)
+write_with-requires c = omega (arith, c.min.ensures)

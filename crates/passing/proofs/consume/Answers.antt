@@ -1,47 +1,33 @@
--- `passing::consume` meets its contract. What it keeps is `Used`; every turn of the loop uses some of what is left of the chunk.
--- Assumes nothing.
-use mathlib.Core.List.{List, [], ◌++◌}
-use mathlib.Core.Path.{sym, ap, ◌∙◌}
-use Prim.Native.Nat.{ℕ, ◌+◌, ◌-◌, ◌<◌, ◌≤◌}
-use borrow.Rule.Slice.PartMut.{mid_of}
+-- `passing::consume` meets its contract: from what is left of the chunk the session comes as far as from all of it. Assumes nothing.
+use mathlib.Core.List.{List, []}
+use mathlib.Core.Path.{◌≡◌, refl, sym, ap, ◌∙◌}
+use Prim.Native.Nat.{ℕ, ◌<◌}
 use native.Mathlib.Omega.{arith}
 use lib.ListN.{length}
-use lib.Seq.{take_all}
-use Rattle.session.proofs.Callers.{moves, reached-fed, reached-session, reached-start}
-use Rattle.session.specs.Session.{consumed, fed, progress_of}
+use Rattle.std.proofs.Common.{rules}
+use Rattle.session.proofs.Callers.{reached-session, reached-start}
+use Rattle.session.specs.Session.{consumed, progress_of}
+use Rattle.passing.proofs.UsedChunks.{less-left, none-left, used-on}
 use Rattle.passing.proofs.consume.Goals as goal
 
-pub loop-from-init : goal.loop-from-init
-loop-from-init c = (c.piece-records.ensures, record { text = []; within = omega arith; reached = reached-start _ })
+pub loop-rest-init : goal.loop-rest-init
+loop-rest-init c = (c.piece-records.ensures, refl)
 
-pub overflow_add-from : goal.overflow_add-from
-overflow_add-from c =
-    let used-some : let from = c.loop-from.from in let end = from + c.feed-fed.result.used in (from < end) × (end ≤ length c.args.chunk.now) = let e = c.feed-fed.ensures in
-    moves (progress_of c.loop-from.s) c.args.chunk.now c.loop-from.from _ (length c.loop-from.records) e.used e.bounds.used-within (omega (arith, c.loop-from.invariant.0)) c.loop-from-test.true in
-    omega (arith, used-some, c.well_formed)
+pub loop-rest-smaller : goal.loop-rest-smaller
+loop-rest-smaller c =
+    let some : 0 < length c.loop-rest.rest.now = search rules in
+    less-left (progress_of c.loop-rest.s) c.loop-rest.rest.now (length c.loop-rest.records) c.feed-fed.ensures.used
+    (omega (arith, c.loop-rest.invariant.0)) some
 
-pub loop-from-smaller : goal.loop-from-smaller
-loop-from-smaller c =
-    let used-some : let from = c.loop-from.from in let end = from + c.feed-fed.result.used in (from < end) × (end ≤ length c.args.chunk.now) = let e = c.feed-fed.ensures in
-    moves (progress_of c.loop-from.s) c.args.chunk.now c.loop-from.from _ (length c.loop-from.records) e.used e.bounds.used-within (omega (arith, c.loop-from.invariant.0)) c.loop-from-test.true in
-    omega (arith, used-some)
-
-pub loop-from-preserved : goal.loop-from-preserved
-loop-from-preserved c =
-    let used-some : let from = c.loop-from.from in let end = from + c.feed-fed.result.used in (from < end) × (end ≤ length c.args.chunk.now) = let e = c.feed-fed.ensures in
-    moves (progress_of c.loop-from.s) c.args.chunk.now c.loop-from.from _ (length c.loop-from.records) e.used e.bounds.used-within (omega (arith, c.loop-from.invariant.0)) c.loop-from-test.true in
-    let chunk = c.args.chunk.now in
-    let rest = mid_of c.loop-from.from (length chunk - c.loop-from.from) chunk in
+pub loop-rest-preserved : goal.loop-rest-preserved
+loop-rest-preserved c =
     let e = c.feed-fed.ensures in (
-      c.loop-from.invariant.0 ∙ sym c.feed-fed.auto.out,
-      record {
-        text = c.loop-from.invariant.1.text ++ (fed (progress_of c.loop-from.s) rest (length c.loop-from.records)).text;
-        within = (used-some).1;
-        reached = rw (e.session, e.used) (reached-fed chunk c.loop-from.from (length c.loop-from.records) c.loop-from.invariant.1.reached);
-      },
+      c.loop-rest.invariant.0 ∙ sym c.feed-fed.auto.out,
+      c.loop-rest.invariant.1 ∙ rw (e.session, e.used) (used-on (progress_of c.loop-rest.s) c.loop-rest.rest.now (length c.loop-rest.records)),
     )
 
 pub returns : goal.returns
 returns c =
-    let a = c.args in
-    reached-session c.loop-from.s c.loop-from.invariant.1.reached ∙ ap (λ (l : List ℕ). (consumed (progress_of a.start) l).progress) (take_all c.loop-from.from a.chunk.now c.loop-from-test.false)
+    let size : length c.loop-rest.rest.now ≡ 0 = search rules in
+    let nothing = none-left c.loop-rest.rest.now size in
+    reached-session c.loop-rest.s (reached-start _) ∙ sym (c.loop-rest.invariant.1 ∙ ap (λ (l : List ℕ). (consumed (progress_of c.loop-rest.s) l).progress) nothing)

@@ -9,6 +9,7 @@ use Rattle.script.specs.Bytes.{same}
 use Rattle.sheet.proofs.SheetLengths.{line-length}
 use Rattle.sheet.proofs.TextPutting.{Begun, taken_out}
 use Rattle.sheet.proofs.VerdictLaws.{same-by-bytes}
+use Rattle.sheet.proofs.WordBytes.{same-by}
 use Rattle.sheet.specs.Sheets.{Explanation, longest_sheet, sheet_line}
 use Rattle.sheet.proofs.is_right.Goals as goal
 
@@ -26,12 +27,12 @@ module _ (e : Explanation) {size : ℕ} {line : List ℕ} (begun : Begun blank (
 pub slice_bounds-text-end : goal.slice_bounds-text-end
 slice_bounds-text-end c = inside c.args.explanation c.write_sheet-size.ensures
 
-pub slice_bounds-is_word-end : goal.slice_bounds-is_word-end
-slice_bounds-is_word-end c =
+pub slice_bounds-eq-end : goal.slice_bounds-eq-end
+slice_bounds-eq-end c =
     let w = c.write_sheet-size.ensures in
     w.value ∙ sym (ap length (text c.args.explanation w))
 
 pub returns : goal.returns
 returns c =
     let a = c.args in
-    c.is_word.ensures ∙ ap (same a.sheet.now) (text a.explanation c.write_sheet-size.ensures) ∙ sym (same-by-bytes a.explanation a.sheet.now)
+    sym (same-by a.sheet.now _ c.eq.ensures) ∙ ap (same a.sheet.now) (text a.explanation c.write_sheet-size.ensures) ∙ sym (same-by-bytes a.explanation a.sheet.now)

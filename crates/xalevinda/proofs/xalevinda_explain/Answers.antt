@@ -5,4 +5,4 @@ use Rattle.xalevinda.proofs.xalevinda_explain.Goals as goal
 pub returns : goal.returns
 returns c =
     let w = c.explain-size.ensures.bounds in
-    record { size = omega (arith, w.counted, w.within); out = rw w.front at c.put.ensures }
+    record { size = omega (arith, w.counted, w.within); out = rw w.front at c.put.ensures.out_after }

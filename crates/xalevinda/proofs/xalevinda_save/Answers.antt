@@ -18,4 +18,4 @@ returns c =
     ap (λ (p : Progress). saved_text (last_ended p).progress) (c.consume-after.ensures ∙ ap (λ (p : Progress). (consumed p script).progress) c.fresh-start.ensures)
     ∙ saved-session script in
     let text = own-text _ (saved_text last) e.wrote e.out e.bounds.wrote-within in
-    rw (← same) record { size = omega (arith, e.wrote, saved-at-most last); out = rw text at c.put.ensures }
+    rw (← same) record { size = omega (arith, e.wrote, saved-at-most last); out = rw text at c.put.ensures.out_after }

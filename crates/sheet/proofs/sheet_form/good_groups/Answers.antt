@@ -8,9 +8,9 @@ use Rattle.sheet.proofs.sheet_form.good_groups.Goals as goal
 pub loop-end-init : goal.loop-end-init
 loop-end-init c = refl
 
-pub returns-in_default : goal.returns-in_default
-returns-in_default c =
-    sym (c.loop-end.invariant ∙ no-group c.args.sheet.now c.loop-end.at c.pass_group.ensures c.in_default.is)
+pub returns : goal.returns
+returns c =
+    sym (c.loop-end.invariant ∙ no-group c.args.sheet.now c.loop-end.at c.pass_group.ensures (c.in_default.is))
 
 pub returns-then-sheet-end : goal.returns-then-sheet-end
 returns-then-sheet-end c =

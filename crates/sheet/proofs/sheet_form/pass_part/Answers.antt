@@ -1,9 +1,9 @@
--- `sheet_form::pass_part` meets its contract: no field, a field that is what stands there, or one that is not. Assumes nothing.
+-- `sheet_form::pass_part` meets its contract: no field, or one that is tested. Assumes nothing.
 use native.Mathlib.Omega.{arith}
 use Rattle.script.proofs.FieldPlaces.{end-within}
 use Prim.Native.Nat.{◌+◌}
 use Rattle.script.specs.LineForms.{tab}
-use Rattle.sheet.proofs.FieldPassing.{bad-field, good-field, no_more}
+use Rattle.sheet.proofs.FieldPassing.{no_more, tested-field}
 use Rattle.sheet.specs.PassedFields.{is_part}
 use Rattle.sheet.proofs.sheet_form.pass_part.Goals as goal
 
@@ -15,12 +15,8 @@ slice_bounds-is_part-end c =
     let a = c.args in
     omega (arith, c.find_byte-end.ensures, end-within tab a.sheet.now (a.at + 1) (omega (arith, c.if-sheet-at.false)))
 
-pub returns-then-is_part : goal.returns-then-is_part
-returns-then-is_part c =
-    let a = c.args in
-    good-field (is_part a.last) a.sheet.now a.at c.find_byte-end.result c.if-sheet-at.false c.find_byte-end.ensures c.is_part.ensures c.if-is_part.true
-
 pub returns : goal.returns
 returns c =
     let a = c.args in
-    bad-field (is_part a.last) a.sheet.now a.at c.find_byte-end.result c.if-sheet-at.false c.find_byte-end.ensures c.is_part.ensures c.if-is_part.false
+    tested-field (is_part a.last) a.sheet.now a.at c.find_byte-end.result c.if-sheet-at.false c.find_byte-end.ensures c.is_part.ensures
+    c.then_some.ensures

@@ -1,7 +1,6 @@
 -- `sheet_text::write_group` meets its contract: nothing of a level that does not deny; else three numbers and a word, each after a tab.
 -- Assumes nothing.
 use Rattle.std.specs.Prelude.{Option, Some}
-use mathlib.Core.Bool.{Bool}
 use mathlib.Core.List.{List, ◌∷◌, ◌++◌}
 use mathlib.Core.Path.{◌≡◌, refl}
 use Prim.Native.Nat.{ℕ, ◌+◌, ◌≤◌}

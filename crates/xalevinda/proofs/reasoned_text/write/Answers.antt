@@ -30,7 +30,7 @@ pub loop-at-preserved : goal.loop-at-preserved
 loop-at-preserved c =
     let bounded : length c.args.out.now < 2 ^ 63 = omega (arith, c.well_formed) in
     let e = c.feed_line-fed.ensures in
-    reasons-fed c.loop-at.invariant (bounded) c.loop-at.line c.loop-at-test.true e.session e.used e.wrote e.out e.bounds.wrote-within c.added-size.ensures c.put.ensures
+    reasons-fed c.loop-at.invariant (bounded) c.loop-at.line c.loop-at-test.true e.session e.used e.wrote e.out e.bounds.wrote-within c.added-size.ensures c.put.ensures.out_after
 
 pub slice_bounds-last-end : goal.slice_bounds-last-end
 slice_bounds-last-end c = c.finish-wrote.ensures.bounds.wrote-within
@@ -42,4 +42,4 @@ pub returns : goal.returns
 returns c =
     let bounded : length c.args.out.now < 2 ^ 63 = omega (arith, c.well_formed) in
     let e = c.finish-wrote.ensures in
-    reasons-done c.loop-at.invariant (bounded) c.loop-at-test.false _ e.wrote e.out e.bounds.wrote-within c.added.ensures c.put-2.ensures
+    reasons-done c.loop-at.invariant (bounded) c.loop-at-test.false _ e.wrote e.out e.bounds.wrote-within c.added.ensures c.put-2.ensures.out_after

@@ -31,14 +31,14 @@ loop-at-preserved c =
     let bounded : length c.args.out.now < 2 ^ 63 = omega (arith, c.well_formed) in
     let e = c.feed-fed.ensures in (
       c.loop-at.invariant.0 ∙ sym c.feed-fed.auto.out,
-      listed-fed c.loop-at.invariant.1 (bounded) c.loop-at.records e.session e.used e.wrote e.out e.bounds c.added-size.ensures c.put.ensures,
+      listed-fed c.loop-at.invariant.1 (bounded) c.loop-at.records e.session e.used e.wrote e.out e.bounds c.added-size.ensures c.put.ensures.out_after,
     )
 
 pub returns : goal.returns
 returns c =
     let bounded : length c.args.out.now < 2 ^ 63 = omega (arith, c.well_formed) in
     let e = c.finish-ended.ensures in
-    listed-done c.loop-at.invariant.1 (bounded) c.loop-at-test.false _ e.wrote e.out e.bounds.wrote-within c.added.ensures c.put-2.ensures
+    listed-done c.loop-at.invariant.1 (bounded) c.loop-at-test.false _ e.wrote e.out e.bounds.wrote-within c.added.ensures c.put-2.ensures.out_after
 
 pub slice_bounds-feed-count : goal.slice_bounds-feed-count
 slice_bounds-feed-count c = omega (arith, c.loop-at-test.true)

@@ -30,7 +30,7 @@ returns c =
     let e = c.open-opened.ensures in
     let counted : c.open-opened.result.wrote ≡ at_most_word (0 + length f.text) = omega (arith, e.wrote, opened-at-most input) in
     let line = own-text _ f.text e.wrote e.out e.bounds.wrote-within in
-    let zero : Stored f.text 0 c.open-opened.result.wrote c.args.out.now c.put.new.out = stored-put counted (rw line at c.put.ensures) in
+    let zero : Stored f.text 0 c.open-opened.result.wrote c.args.out.now c.put.new.out = stored-put counted (rw line at c.put.ensures.out_after) in
     let rest : Stored (finished (consumed f.progress (drop f.used input))) c.open-opened.result.wrote c.write.result c.put.new.out c.write.new.out =
     rw (← e.session, ← e.used, ← part-whole input c.open-opened.result.used) c.write.ensures in
     rw (← both input) (stored-then zero rest (bounded))
