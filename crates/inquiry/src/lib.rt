@@ -42,12 +42,7 @@ fn explain_on(received: &Received, vp: Processor, request: Request) -> Explanati
     ensures { result
         ≡ explanation_of (state_in received.now) vp.0 request.mode request.page.0 request.access }
 {
-    explanation::explain_in(
-        received.setup,
-        &received.parts,
-        vp,
-        request,
-    )
+    explanation::explain_in(received.setup, &received.parts, vp, request)
 }
 
 // Writes the refusal.

@@ -64,12 +64,7 @@ fn write_machine(session: Session, out: &mut [u8; LONGEST_TEXT]) -> usize
     ensures bounds { Bounds 0 result [] out.new }
 {
     let lent = session::lent_words(&session.words, session.lent);
-    transfer::write::write_records(
-        out,
-        session.setup,
-        &session.parts,
-        &session.words[..lent],
-    )
+    transfer::write::write_records(out, session.setup, &session.parts, &session.words[..lent])
 }
 
 // Ends a session's script and writes the records of the state that it leaves, or the refusal line where the first line was bad. Returns
@@ -95,11 +90,7 @@ fn session_of(received: Received) -> Session
     requires { received.setup.pages ≤ 64 }
     ensures { progress_of result ≡ later 1 (received_state received) [] }
 {
-    session::on_machine(
-        received.setup,
-        received.parts,
-        received.words,
-    )
+    session::on_machine(received.setup, received.parts, received.words)
 }
 
 // Begins a session with the records at the start of an input, and writes their answer, line 0. The input is whole, or its first LONGEST_TEXT

@@ -40,11 +40,7 @@ pub enum Reason {
 }
 
 // Why the access that a line asks for, if it asks for one, is allowed or denied on a machine whose parts are lent. The words of the pages do not matter.
-pub fn cause_of(
-    setup: Setup,
-    parts: &Parts,
-    asked: Option<Asked>,
-) -> Option<Explanation>
+pub fn cause_of(setup: Setup, parts: &Parts, asked: Option<Asked>) -> Option<Explanation>
     ensures { (words : List ℕ)
         → cause_of (state_of setup parts.now words) asked ≡ result }
 {

@@ -76,11 +76,7 @@ pub fn refused() -> Session
 }
 
 // A session before line 1 on a machine whose parts are given, with as many words as the machine has pages.
-pub fn on_machine(
-    setup: Setup,
-    parts: Parts,
-    words: [u64; 64],
-) -> Session
+pub fn on_machine(setup: Setup, parts: Parts, words: [u64; 64]) -> Session
     ensures { progress_of result ≡ later 1 (state_of setup parts (lent_of words setup.pages)) [] }
 {
     Session {

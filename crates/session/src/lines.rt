@@ -69,12 +69,7 @@ pub(crate) fn blank(phase: Phase) -> Session
 }
 
 // The session before a later line, with the machine and the words that the line before it left.
-pub fn after_line(
-    start: Session,
-    number: u64,
-    parts: Parts,
-    words: [u64; 64],
-) -> Session
+pub fn after_line(start: Session, number: u64, parts: Parts, words: [u64; 64]) -> Session
     ensures { progress_of result
         ≡ later number (state_of start.setup parts (lent_of words start.lent)) [] }
 {
@@ -231,13 +226,7 @@ pub(crate) fn feed_later(
         }
         let bytes = &chunk[i..end];
         i = end + 1;
-        let shown = answer_line(
-            formed,
-            setup,
-            &mut parts,
-            &mut words[..lent],
-            bytes,
-        );
+        let shown = answer_line(formed, setup, &mut parts, &mut words[..lent], bytes);
         wrote = listing_record::write_record(out, wrote, line, shown);
         line = listing_record::next_number(line);
     }
