@@ -17,7 +17,6 @@ use Rattle.model.specs.Step.{rule, rule_of, ruled, step}
 use Rattle.model.specs.WellFormed.{well_formed}
 use Rattle.model.specs.declared.answer.Answer.{Answer}
 use Rattle.model.specs.declared.answer.Answer.TheVariants.{Refused}
-use Rattle.model.specs.declared.answer.Refusal.TheVariants as Refusal
 use Rattle.model.specs.declared.machine.Setup.{Setup}
 use Rattle.model.specs.declared.event.Action.{Action}
 use Rattle.model.specs.declared.event.Action.TheVariants.{Enpart, Envp, Call, Ret, Read, Write, Fetch, Protect, Config, Secure, Flush, Rreg, Wreg, Tpr, Ack, Pstat, Vstat, Caps, Cri, Crm}

@@ -24,7 +24,7 @@ use Rattle.script.specs.Records.{last_line, lines, lines_in}
 use Rattle.sheet.specs.SheetForms.{good_form}
 use Rattle.sheet.specs.Sheets.{Explanation}
 use Rattle.sheet.specs.Verdicts.{refusal, verdict, verdict_lines}
-use Rattle.asked.specs.AskedAccess.{asked_by, asks}
+use Rattle.asked.specs.AskedAccess.{asked_by}
 use Rattle.inquiry.specs.Inquiry.{LongRefused, explained, of_asked, of_line, of_lines, of_passed, sheet_with}
 use Rattle.asked.specs.declared.Asked.{Asked}
 use Rattle.inquiry.proofs.AccessLines.{either_way}

@@ -1,10 +1,10 @@
 -- What `consume` keeps from turn to turn of its loop. Assumes nothing.
-use mathlib.Core.List.{List, [], ◌∷◌, ◌++◌}
+use mathlib.Core.List.{List, [], ◌∷◌}
 use mathlib.Core.Path.{◌≡◌, refl, sym, ap, ◌∙◌}
 use Prim.Native.Nat.{ℕ, ◌-◌, ◌≤◌, ◌<◌}
 use borrow.Rule.Slice.PartMut.{mid_of}
 use native.Mathlib.Omega.{arith}
-use lib.ListN.{drop, length, length-drop, take}
+use lib.ListN.{drop, length, length-drop}
 use Rattle.std.proofs.lemmas.List.{take-append-drop}
 use Rattle.script.specs.ListingLine.{longest_record}
 use Rattle.session.proofs.Callers.{part-whole}

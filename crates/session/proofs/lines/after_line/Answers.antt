@@ -1,6 +1,5 @@
 -- `session::lines::after_line` meets its contract: the records are those of the array. Assumes nothing.
 use Rattle.state.specs.Lent.{machine_of}
-use Rattle.std.proofs.Common.{refl}
 use Rattle.session.proofs.lines.after_line.Goals as goal
 
 pub returns : goal.returns

@@ -1,6 +1,5 @@
 -- `session::lines::end_later` meets its contract: the line is answered in the state of the session. Assumes nothing.
 use Rattle.std.proofs.Common.{ℕ, List, length, take, sym, ap, ◌∙◌, zero-add, arith, length-take-le}
-use Rattle.chunk.proofs.ChunkLines.{held-taken, held-within}
 use Rattle.session.proofs.Ending.{ended_by, words_back}
 use Rattle.session.proofs.Numbering.{own-number}
 use Rattle.listing.specs.Answer.{shown_text}

@@ -2,7 +2,7 @@
 use Rattle.model.specs.declared.machine.Machine.{Machine}
 use Rattle.session.specs.Session.{lent_of}
 use Rattle.state.proofs.FreshMachine.{fresh-machine}
-use Rattle.std.proofs.Common.{replicate, refl, ap}
+use Rattle.std.proofs.Common.{replicate, ap}
 use Rattle.session.proofs.lines.opened.Goals as goal
 
 pub returns : goal.returns
