@@ -15,7 +15,7 @@ use listing::Shown;
 use model::answer::Refusal;
 use sheet::{LONGEST_SHEET, put};
 
-// Writes a tab and a number.
+// Writes a tab and a number. Crate sheet has the same inside: a public one would have to take any buffer.
 fn write_number(out: &mut [u8], at: usize, value: u64) -> usize
     requires { at + length (tab ∷ decimal value) ≤ length out.old }
     ensures value { result ≡ at + length (tab ∷ decimal value) }
