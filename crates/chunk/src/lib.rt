@@ -1,7 +1,7 @@
 // Lines in a chunk: where one ends, and the beginning of one that goes on in the next chunk.
 #![tactic(auto)]
 
-ghost use Rattle.std.specs.Prelude.{◌++◌, ◌≡◌, List, [], ℕ, length, min, take};
+ghost use Rattle.std.specs.Prelude.{◌++◌, ◌≡◌, List, [], ℕ, length, take};
 ghost use lib.ListN;
 ghost use Rattle.script.specs.First.{line_first};
 ghost use Rattle.chunk.specs.Chunk.{held, kept_bytes, line_end};
@@ -13,13 +13,6 @@ use script::search::find_far_byte;
 
 // A line has at most 256 bytes; one more is kept, so that a longer line is known to be too long.
 pub const KEPT_BYTES: usize = script::LONGEST_LINE + 1;
-
-// The smaller of two numbers.
-pub fn at_most(number: usize, most: usize) -> usize
-    ensures { result ≡ min number most }
-{
-    number.min(most)
-}
 
 // Where the line that starts at `start` ends: at the next line feed, or at the chunk's end.
 pub fn line_end(chunk: &[u8], start: usize) -> usize
