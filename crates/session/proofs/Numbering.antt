@@ -1,7 +1,11 @@
 -- Laws of a line number that is kept with its digits: how they are packed, counted up, and written. Assumes nothing.
-use Rattle.std.proofs.Common.{◌≡◌, ℕ, zero, suc, ◌+◌, ◌-◌, ◌*◌, ◌/◌, ◌%◌, ◌^◌, ◌<◌, ◌≤◌, Bool, true, false, cond, eqb, ltb, List, [], ◌∷◌, ◌++◌, length, set, sym, refl, ap, ◌∙◌, subst, append_assoc, pow-suc, add-one, arith, length-append, length-set, set-set, ltb-false, ltb-true, ne_eqb}
+use Rattle.std.proofs.Common.{rules, w64, ◌≡◌, ℕ, zero, suc, ◌+◌, ◌-◌, ◌*◌, ◌/◌, ◌%◌, ◌^◌, ◌<◌, ◌≤◌, Bool, true, false, cond, eqb, ltb, List, [], ◌∷◌, ◌++◌, length, set, sym, refl, ap, ◌∙◌, subst, append_assoc, pow-suc, add-one, arith, length-append, length-set, set-set, ltb-false, ltb-true, ne_eqb}
 use native.Mathlib.Nat.{pow-le-pow_right}
-use lib.Seq.{length-sets, sets}
+use borrow.Rule.Slice.PartMut.{put_mid}
+use lib.ListN.{drop, take}
+use lib.Seq.{drop-drop, length-sets, sets}
+use Rattle.std.proofs.lemmas.List.Edits.{sets-eq}
+use Rattle.std.specs.Int.{to_le_bytes}
 use Rattle.decimal.proofs.Digits.{last-digit, one-digit, text-length}
 use Rattle.decimal.proofs.Writing.{set-sets}
 use Rattle.decimal.specs.Write.{digits_before, digits_in, last_byte}
@@ -154,11 +158,18 @@ own-number {line} w = subst (λ (k : ℕ). Numbered line k) (sym w.number) w
 pub cell-size : (n closing : ℕ) → (2 ≤ length (cell n closing)) × (length (cell n closing) ≤ 21)
 cell-size n closing = omega (arith, cell-length n closing, text-length n)
 
--- What is stored at a word's place byte by byte.
-pub stored-byte : (out before : List ℕ) (at i word rest : ℕ) → i < 8 → sets out (at + i) (packed (8 - i) rest) ≡ sets before at (packed 8 word)
-    → sets (set out (at + i) (rest % 256)) (at + (i + 1)) (packed (8 - (i + 1)) (rest / 256)) ≡ sets before at (packed 8 word)
+-- The bytes of a word are its packed digits; they take the eight places that they are copied over.
+pub word-bytes : (word : ℕ) → to_le_bytes w64 word ≡ packed 8 word
 unfolding packed
-stored-byte out before at i word rest h e =
-    let next : 8 - i ≡ suc (8 - (i + 1)) = omega arith in
-    let place : at + (i + 1) ≡ suc (at + i) = omega arith in
-    rw place (rw next at e)
+word-bytes word = search (rules, arith)
+
+pub stored-eight : (out : List ℕ) (at : ℕ) (part bytes : List ℕ) → length bytes ≡ 8 → at + 8 ≤ length out → part ≡ bytes
+    → put_mid at (at + 8 - at) out part ≡ sets out at bytes
+stored-eight out at part bytes count fits e =
+    let size : at + 8 - at ≡ 8 = omega arith in
+    let cut : sets out at bytes ≡ take at out ++ bytes ++ drop (at + length bytes) out = sets-eq bytes out at (omega (arith, count)) in
+    rw (e, size, drop-drop) (sym (rw (count, append_assoc) at cut))
+
+pub stored-word : (out : List ℕ) (at word : ℕ) (part : List ℕ) → at + 8 ≤ length out → part ≡ to_le_bytes w64 word
+    → put_mid at (at + 8 - at) out part ≡ sets out at (packed 8 word)
+stored-word out at word part fits e = stored-eight out at part (packed 8 word) (packed-length 8 word) fits (e ∙ word-bytes word)

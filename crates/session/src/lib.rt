@@ -41,7 +41,7 @@ pub struct Session {
     // The machine in its parts: what stays the same, and what it holds of levels, masks and processors.
     pub setup: Setup,
     pub parts: Parts,
-    // The words of its pages: the first `lent` of the array.
+    // The words of its pages: the first `lent` of the array, and no `Vec`, since the library takes no heap.
     pub lent: usize,
     pub words: [u64; 64],
 }

@@ -207,6 +207,7 @@ pub(crate) fn feed_later(
     let formed = well_formed(setup, &parts, &words[..lent]);
     let mut i = from;
     let mut wrote = at;
+    // Two ends, each with its own answer: no line ends any more, or `out` has no room.
     loop {
         let end = chunk::line_end(chunk, i);
         if chunk.len() <= end {

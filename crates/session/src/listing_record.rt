@@ -18,7 +18,8 @@ struct Digits {
     width: usize,
 }
 
-// A line number, the digits before its last where they are at most eight, and the last.
+// A line number, the digits before its last where they are at most eight, and the last. A width of 9 says that they are not kept: an
+// `Option<Digits>` would be a word more, in what is written anew for every line.
 #[derive(Clone, Copy)]
 pub struct LineNumber {
     pub number: u64,
@@ -35,6 +36,7 @@ fn digits_of(number: u64) -> Digits
     let mut word: u64 = 0;
     let mut width: usize = 0;
     let mut rest = number;
+    // A division a digit: there is no list of digits to go over.
     while rest > 0 {
         word = word * 256 + (48 + rest % 10);
         width += 1;
@@ -88,13 +90,7 @@ fn store_word(out: &mut [u8], at: usize, word: u64)
     requires { at + 8 ≤ length out.old }
     ensures { out.new ≡ sets out.old at (packed 8 word) }
 {
-    let mut rest = word;
-    let mut i: usize = 0;
-    while i < 8 {
-        out[at + i] = (rest % 256) as u8;
-        rest = rest / 256;
-        i += 1;
-    }
+    out[at..at + 8].copy_from_slice(&word.to_le_bytes());
 }
 
 // Writes `value` and the byte `closing` into `out` from `at` on, and returns the place after them. Most values have one digit.
