@@ -1,10 +1,12 @@
 -- What the parts of the code give: a line that was answered with its reason, and a line that has ended. Assumes nothing.
-use Rattle.std.specs.Prelude.{◌≡◌, ℕ, ◌≤◌, List, length, Option, Result}
+use Rattle.std.specs.Prelude.{◌≡◌, ℕ, ◌≤◌, List, length, None, Option, Result, Some}
 use Rattle.std.proofs.lemmas.List.Edits.{sets}
 use Rattle.listing.specs.Answer.{shown_by}
 use Rattle.listing.specs.Listing.{answered}
 use Rattle.model.specs.State.{State}
-use Rattle.reason.specs.Reasons.{reason_for}
+use Rattle.reason.specs.Reasons.{reason_for, reasoned_text}
+use Rattle.reason.specs.declared.Reason.{Reason}
+use Rattle.reason.specs.declared.Reason.TheVariants as reason
 use Rattle.session.specs.Session.{Progress, ended, progress_of}
 use Rattle.session.specs.declared.Written.{Written}
 use Rattle.reasoned.specs.ReasonedSession.{line_text}
@@ -25,3 +27,8 @@ pub record EndedWith (p : Progress) (r : Written) (before after : List ℕ) : Ty
   pub wrote : r.wrote ≡ length (line_text p)
   pub written : after ≡ sets before 0 (line_text p)
   pub within : r.wrote ≤ length after
+
+-- The line of the first line: done, or refused for a reason.
+abbrev pub first_line : Option Reason → List ℕ
+first_line None = reasoned_text 0 0 0 0 reason.Nothing
+first_line (Some why) = reasoned_text 0 1 0 0 why

@@ -7,8 +7,7 @@ ghost use Rattle.std.specs.Prelude.{◌≡◌, ◌≤◌, [], length, take};
 ghost use Rattle.std.proofs.lemmas.List.Edits.{sets};
 ghost use Rattle.chunk.specs.HeldBytes.{held_bytes};
 ghost use Rattle.reason.specs.ReasonedListing.{first_reason};
-ghost use Rattle.reason.specs.Reasons.{reasoned_text};
-ghost use Rattle.reasoned.specs.ReasonedParts.{EndedWith};
+ghost use Rattle.reasoned.specs.ReasonedParts.{EndedWith, first_line};
 ghost use Rattle.reasoned.specs.ReasonedSession.{last_told, line_used, told};
 ghost use Rattle.script.specs.First.{line_first};
 ghost use Rattle.session.specs.Session.{Bounds, consumed, first, later, progress_of, state_in};
@@ -37,18 +36,18 @@ fn first_reason(start: Session) -> Reason
     }
 }
 
-// Writes the line of the first line, with this answer.
-fn write_first(out: &mut [u8; LONGEST_REASONED], answer: u64, why: Reason) -> usize
-    ensures value { result ≡ length (reasoned_text 0 answer 0 0 why) }
-    ensures out_after { out.new ≡ sets out.old 0 (reasoned_text 0 answer 0 0 why) }
+// Writes the line of the first line: done, or refused for a reason.
+fn write_first(out: &mut [u8; LONGEST_REASONED], refused: Option<Reason>) -> usize
+    ensures value { result ≡ length (first_line refused) }
+    ensures out_after { out.new ≡ sets out.old 0 (first_line refused) }
     ensures upper_bound { result ≤ length out.new }
 {
     let shown = Shown {
-        answer,
+        answer: u64::from(refused.is_some()),
         value: 0,
         level: Level(0),
     };
-    write_line(out, 0, shown, why)
+    write_line(out, 0, shown, refused.unwrap_or(Reason::Nothing))
 }
 
 // Ends the first line. The session after it is the one that ending the listing leaves.
@@ -60,10 +59,10 @@ fn end_first(start: Session, out: &mut [u8; LONGEST_REASONED]) -> Written
     let ended = session::finish(start, &mut record);
     let session = ended.session;
     if session::stopped(session) {
-        let wrote = write_first(out, 1, first_reason(start));
+        let wrote = write_first(out, Some(first_reason(start)));
         return Written { session, wrote };
     }
-    let wrote = write_first(out, 0, Reason::Nothing);
+    let wrote = write_first(out, None);
     Written { session, wrote }
 }
 
@@ -149,7 +148,7 @@ fn finish_empty(start: Session, out: &mut [u8; LONGEST_REASONED]) -> usize
     ensures upper_bound { result ≤ length out.new }
 {
     match start.phase {
-        Phase::First => write_first(out, 1, Reason::EmptyInput),
+        Phase::First => write_first(out, Some(Reason::EmptyInput)),
         Phase::Later => 0,
         Phase::Stopped => 0,
     }

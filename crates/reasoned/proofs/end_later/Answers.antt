@@ -1,7 +1,6 @@
 -- `reasoned::end_later` meets its contract: the line is answered in the state of the session. Assumes nothing.
 use Rattle.std.proofs.Common.{ℕ, List, length, take, sym, ap, ◌∙◌, arith, length-take-le}
 use lib.Seq.{sets}
-use Rattle.chunk.proofs.ChunkLines.{held-taken, held-within}
 use Rattle.reasoned.proofs.ReasonedLines.{later-progress, later-text}
 use Rattle.session.proofs.Ending.{words_back}
 use Rattle.state.specs.Lent.{lent}
