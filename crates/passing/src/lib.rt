@@ -12,18 +12,12 @@ use reader::Received;
 use session::{Fed, LONGEST_RECORD, Phase, Session};
 use transfer::write::LONGEST_TEXT;
 
-// The records of a piece of a script, which nobody reads: few pieces.
-fn piece() -> [u8; 65536]
-    ensures { 65536 ≡ length result }
-{
-    [0; 65536]
-}
-
 // Uses all of a chunk of a script. Its listing is not kept.
 pub fn consume(start: Session, chunk: &[u8]) -> Session
     ensures { progress_of result ≡ (consumed (progress_of start) chunk.now).progress }
 {
-    let mut records = piece();
+    // Nobody reads these records. They have so much room that there are few pieces.
+    let mut records = [0u8; 65536];
     let mut s = start;
     let mut rest = chunk;
     while !rest.is_empty() {

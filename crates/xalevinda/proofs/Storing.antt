@@ -3,11 +3,10 @@
 use mathlib.Core.Bool.{Bool, true, false, cond}
 use mathlib.Core.List.{List, [], ◌++◌, append_assoc}
 use mathlib.Core.Path.{◌≡◌, refl, sym, ap, ◌∙◌}
-use Prim.Native.Nat.{ℕ, ◌+◌, ◌-◌, ◌^◌, ◌≤◌, ◌<◌}
-use borrow.Rule.Slice.PartMut.{put_mid}
+use Prim.Native.Nat.{ℕ, ◌+◌, ◌^◌, ◌≤◌, ◌<◌}
 use native.Mathlib.Omega.{arith}
-use lib.ListN.{drop, length, length-append, take}
-use lib.Seq.{drop-drop, length-sets, sets, sets-eq}
+use lib.ListN.{length, length-append, take}
+use lib.Seq.{length-sets, sets}
 use Rattle.decimal.proofs.TextRoom.{with-no-room, with-room}
 use Rattle.decimal.specs.Write.{has_room, with_text}
 use Rattle.script.proofs.StoredTexts.{sets-append}
@@ -73,3 +72,27 @@ stored-whole {text} {size} {count} {before} w h counted fits =
 -- Nothing was stored where they do not fit.
 pub stored-nothing : (text : List ℕ) (count : ℕ) (before : List ℕ) → count ≡ size_of text → length before < count → before ≡ with_text before 0 text
 stored-nothing text count before counted short = sym (with-no-room before 0 text (omega arith))
+
+-- A text that is written piece by piece: so much of it is left, and what came before stands in the buffer from a place on.
+pub record Partly (whole left : List ℕ) (begun : ℕ) (before : List ℕ) (size : ℕ) (out : List ℕ) : Type 0 where
+  pub text : List ℕ
+  pub parts : whole ≡ text ++ left
+  pub stored : Stored text begun size before out
+
+pub partly-start : (whole : List ℕ) (begun : ℕ) (out : List ℕ) → begun < 2 ^ 64 → Partly whole whole begun out begun out
+partly-start whole begun out h = record { text = []; parts = refl; stored = stored-none begun out h }
+
+module _ {whole left : List ℕ} {begun : ℕ} {before : List ℕ} {size : ℕ} {out : List ℕ} (w : Partly whole left begun before size out) (h : length before < 2 ^ 63) where
+  -- A piece was written into a buffer of its own, and put after the others.
+  module _ {wrote size' : ℕ} {last out' : List ℕ} (buffer piece : List ℕ) (writes : wrote ≡ length piece) (recorded : last ≡ sets buffer 0 piece)
+      (within : wrote ≤ length last) (counted : size' ≡ at_most_word (size + wrote)) (put : out' ≡ with_text out size (take wrote last)) where
+    more : Stored (w.text ++ piece) begun size' before out'
+    more = stored_more w.stored h piece (rw writes at counted) (rw (own-text buffer piece writes recorded within) at put)
+
+    pub partly-more : (left' : List ℕ) → left ≡ piece ++ left' → Partly whole left' begun before size' out'
+    partly-more left' e =
+        record { text = w.text ++ piece; parts = w.parts ∙ ap (λ (l : List ℕ). w.text ++ l) e ∙ sym (append_assoc w.text piece left'); stored = more }
+
+    -- It was the last one.
+    pub partly-done : left ≡ piece → Stored whole begun size' before out'
+    partly-done e = rw (w.parts ∙ ap (λ (l : List ℕ). w.text ++ l) e) more

@@ -13,6 +13,7 @@ ghost use Rattle.reason.specs.ReasonedListing.{reasoned};
 ghost use Rattle.word.specs.RegisterFields.{field_of, with_field};
 ghost use Rattle.xalevinda.specs.Exports.{size_of};
 
+use transfer::write::LONGEST_TEXT;
 use written::Begins;
 
 mod reasoned_text; // the listing with reasons, written into a buffer
@@ -34,7 +35,7 @@ pub fn xalevinda_save(script: &[u8], out: &mut [u8]) -> usize
     ensures size { result ≡ size_of (saved script.now) }
     ensures out { out.new ≡ with_text out.old 0 (saved script.now) }
 {
-    let mut text = written::piece();
+    let mut text = [0u8; LONGEST_TEXT];
     let start = session::fresh();
     let after = passing::consume(start, script);
     let size = passing::save(after, &mut text);

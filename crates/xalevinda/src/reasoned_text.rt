@@ -17,13 +17,13 @@ fn write(script: &[u8], out: &mut [u8]) -> usize
     let mut line = [0u8; LONGEST_REASONED];
     let mut s = session::fresh();
     let mut size: usize = 0;
-    let mut at: usize = 0;
-    while at < script.len() {
-        let fed = reasoned::feed_line(s, &script[at..], &mut line);
+    let mut rest = script;
+    while !rest.is_empty() {
+        let fed = reasoned::feed_line(s, rest, &mut line);
         let wrote = fed.wrote;
         put(out, size, &line[..wrote]);
         size = added(size, wrote);
-        at += fed.used;
+        rest = &rest[fed.used..];
         s = fed.session;
     }
     let mut last = [0u8; LONGEST_REASONED];

@@ -19,13 +19,6 @@ pub(crate) enum Begins {
     Records,
 }
 
-// A text, or a piece of one, before it is put into the caller's buffer: few pieces, and little to clear.
-pub(crate) fn piece() -> [u8; LONGEST_TEXT]
-    ensures { 65536 ≡ length result }
-{
-    [0; LONGEST_TEXT]
-}
-
 // How many lines of an input end in a line feed.
 fn line_feeds(input: &[u8]) -> usize
     ensures { result ≡ length (lines_in input.now).complete }
@@ -46,16 +39,17 @@ fn write(start: Session, script: &[u8], out: &mut [u8], begun: usize) -> usize
     ensures { Stored (finished (consumed (progress_of start) script.now)) begun result
         out.old out.new }
 {
-    let mut records = piece();
+    // The records of a piece: so much room that there are few pieces, and little to clear.
+    let mut records = [0u8; LONGEST_TEXT];
     let mut s = start;
     let mut size = begun;
-    let mut at: usize = 0;
-    while at < script.len() {
-        let fed = session::feed(s, &script[at..], &mut records);
+    let mut rest = script;
+    while !rest.is_empty() {
+        let fed = session::feed(s, rest, &mut records);
         let wrote = fed.wrote;
         put(out, size, &records[..wrote]);
         size = added(size, wrote);
-        at += fed.used;
+        rest = &rest[fed.used..];
         s = fed.session;
     }
     let mut last = [0u8; LONGEST_RECORD];

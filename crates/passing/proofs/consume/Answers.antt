@@ -11,7 +11,7 @@ use Rattle.passing.proofs.UsedChunks.{less-left, none-left, used-on}
 use Rattle.passing.proofs.consume.Goals as goal
 
 pub loop-rest-init : goal.loop-rest-init
-loop-rest-init c = (c.piece-records.ensures, refl)
+loop-rest-init c = (refl, refl)
 
 pub loop-rest-smaller : goal.loop-rest-smaller
 loop-rest-smaller c =

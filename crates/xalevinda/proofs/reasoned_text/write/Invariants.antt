@@ -1,13 +1,13 @@
--- `xalevinda::reasoned_text::write` meets its contract. The loop's invariant is `Reasons`, and the measure is what is left of the script.
--- Assumes nothing.
-use Prim.Native.Nat.{◌-◌}
+-- `xalevinda::reasoned_text::write` meets its contract: what is left of the script gives what is left to write. Assumes nothing.
 use lib.ListN.{length}
 use Rattle.session.specs.Session.{progress_of}
-use Rattle.xalevinda.proofs.ReasonsStored.{Reasons}
+use Rattle.reason.specs.ReasonedListing.{reasoned}
+use Rattle.xalevinda.proofs.ReasonsStored.{reasons_of}
+use Rattle.xalevinda.proofs.Storing.{Partly}
 use Rattle.xalevinda.proofs.reasoned_text.write.Given as goal
 
-abbrev pub invariant-loop-at : goal.invariant-loop-at
-invariant-loop-at l = Reasons l.script l.initial.out (progress_of l.s) l.at l.size l.out
+abbrev pub invariant-loop-rest : goal.invariant-loop-rest
+invariant-loop-rest l = Partly (reasoned l.script) (reasons_of (progress_of l.s) l.rest) 0 l.initial.out l.size l.out
 
-abbrev pub decreases-loop-at : goal.decreases-loop-at
-decreases-loop-at l = length l.script - l.at
+abbrev pub decreases-loop-rest : goal.decreases-loop-rest
+decreases-loop-rest l = length l.rest
