@@ -28,7 +28,7 @@ pub fn consume(start: Session, chunk: &[u8]) -> Session
     s
 }
 
-// Copies a line to the start of `out`, and returns how many bytes it has.
+// Copies a line to the start of `out`, and returns how many bytes it has. (`put` of `sheet` does it too, but this crate needs no sheets.)
 fn put_line(out: &mut [u8], line: &[u8]) -> usize
     requires { length line.now ≤ length out.old }
     ensures value { result ≡ length line.now }

@@ -251,6 +251,9 @@ impl From<WriteFailed> for Reported {
     }
 }
 
+// Report, output and transcript stand beside one another here and below: a struct that held the three would hold three `&mut`, and each function
+// would have to say that they are the same references after it.
+
 // Feeds all of a chunk, piece by piece, and writes the text of each. If a write fails, the piece whose text was not written does not count as
 // used, nor does what follows it.
 pub fn turn<T: Transcript, W: Write>(
