@@ -3,7 +3,7 @@ use Rattle.std.specs.Prelude.{None, Option, Some}
 use mathlib.Core.Bool.{Bool, true, false, cond}
 use mathlib.Core.List.{List, [], ◌∷◌}
 use mathlib.Core.Path.{◌≡◌, refl, sym, ap, ◌∙◌}
-use Prim.Native.Nat.{ℕ, suc, ◌+◌, ◌*◌, ◌/◌, ◌≤◌, ◌<◌}
+use Prim.Native.Nat.{ℕ, suc, ◌+◌, ◌*◌, ◌≤◌}
 use native.Mathlib.Omega.{arith}
 use lib.Dec.{eqb}
 use Rattle.std.specs.List.{filter}
@@ -23,10 +23,6 @@ use Rattle.script.specs.EventForms.{line_event}
 use Rattle.script.specs.First.{line_first}
 use Rattle.script.specs.ListingLine.{line_feed}
 use Rattle.session.specs.Session.{Progress, first, later, stopped}
-use Rattle.xalevinda.specs.Exports.{size_of}
-use Rattle.xalevinda.specs.StoredListing.{text_of}
-use Rattle.xalevinda.specs.declared.written.Begins.{Begins}
-use Rattle.xalevinda.specs.declared.written.Begins.TheVariants as begins
 
 -- A record has at most 84 bytes.
 record-at-most : (number : ℕ) (a : Answered) → length (record_of number a) ≤ 84
@@ -57,7 +53,7 @@ unfolding lines
 lines-at-most input =
     let l = lines_in input in omega (arith, length-append l.complete (last_line l.rest), last-at-most l.rest)
 
-listing-at-most : (script : List ℕ) → length (listing script) ≤ 84 * suc (length (lines_in script).complete)
+pub listing-at-most : (script : List ℕ) → length (listing script) ≤ 84 * suc (length (lines_in script).complete)
 unfolding listing
 listing-at-most script = of-at-most (lines script) (length (lines_in script).complete) (lines-at-most script)
 
@@ -66,7 +62,7 @@ some-lines : (s : State) → 1 ≤ length (record_lines s)
 unfolding record_lines
 some-lines s = omega arith
 
-resumed-at-most : (input : List ℕ) → length (resumed input) ≤ 84 * suc (length (lines_in input).complete)
+pub resumed-at-most : (input : List ℕ) → length (resumed input) ≤ 84 * suc (length (lines_in input).complete)
 unfolding resumed
 resumed-at-most input = go (passed_on (lines input)) refl
   where
@@ -75,14 +71,6 @@ resumed-at-most input = go (passed_on (lines input)) refl
     go (Some r) e =
         let these = ap length (only-records input r e).these in
         omega (arith, from-at-most (Some r.state) r.rest, these, length-append (record_lines r.state) r.rest, some-lines r.state, lines-at-most input)
-
-text-at-most : (begins : Begins) (input : List ℕ) → length (text_of begins input) ≤ 84 * suc (length (lines_in input).complete)
-text-at-most begins.FirstLine input = listing-at-most input
-text-at-most begins.Records input = resumed-at-most input
-
-pub fits-at-once : (begins : Begins) (input : List ℕ) (size feeds room : ℕ) → size ≡ size_of (text_of begins input)
-    → feeds ≡ length (lines_in input).complete → feeds < room / 84 → size ≤ room
-fits-at-once begins input size feeds room e f h = omega (arith, text-at-most begins input)
 
 -- Line 0 of what is resumed.
 pub opened-at-most : (input : List ℕ) → length (opened input).text ≤ 84

@@ -13,8 +13,9 @@ ghost use Rattle.reason.specs.ReasonedListing.{reasoned};
 ghost use Rattle.word.specs.RegisterFields.{field_of, with_field};
 ghost use Rattle.xalevinda.specs.Exports.{size_of};
 
+use reasoned_text::Reasons;
 use transfer::write::LONGEST_TEXT;
-use written::Begins;
+use written::{Listing, Resumed};
 
 mod reasoned_text; // the listing with reasons, written into a buffer
 mod written; // a text written into a buffer
@@ -26,7 +27,7 @@ pub fn xalevinda_listing(script: &[u8], out: &mut [u8]) -> usize
     ensures size { result ≡ size_of (listing script.now) }
     ensures out { out.new ≡ with_text out.old 0 (listing script.now) }
 {
-    written::whole(Begins::FirstLine, script, out)
+    written::whole::<Listing>(script, out)
 }
 
 // What saving after a script writes (02, request 2): the records of the state after it, or the refusal line where its first line is bad. All of
@@ -49,7 +50,7 @@ pub fn xalevinda_resume(input: &[u8], out: &mut [u8]) -> usize
     ensures size { result ≡ size_of (resumed input.now) }
     ensures out { out.new ≡ with_text out.old 0 (resumed input.now) }
 {
-    written::whole(Begins::Records, input, out)
+    written::whole::<Resumed>(input, out)
 }
 
 // Why an access is allowed or denied (02, request 3): the sheet of the access line that follows the records of a state, or the verdict on the
@@ -70,7 +71,7 @@ pub fn xalevinda_why(script: &[u8], out: &mut [u8]) -> usize
     ensures size { result ≡ size_of (reasoned script.now) }
     ensures out { out.new ≡ with_text out.old 0 (reasoned script.now) }
 {
-    reasoned_text::whole(script, out)
+    written::whole::<Reasons>(script, out)
 }
 
 // Lockstep: makes the fresh machine of a first line (01, "Script and listing") in the words of `machine`. Returns 0, or the number of the reason

@@ -1,23 +1,37 @@
 // A text written into a lent buffer by way of a buffer of fixed size: so the room that a session asks for beyond the records that it
 // writes is never asked of the caller.
-ghost use Rattle.std.specs.Prelude.{◌≡◌, ◌+◌, length};
+ghost use Rattle.std.specs.Prelude.{◌≡◌, ◌≤◌, ℕ, suc, ◌+◌, ◌*◌, List, length};
 ghost use Rattle.decimal.specs.Write.{with_text};
+ghost use Rattle.listing.specs.Listing.{listing};
 ghost use Rattle.passing.specs.Passing.{resumed};
 ghost use Rattle.script.specs.Records.{lines_in};
 ghost use Rattle.session.specs.Session.{consumed, finished, progress_of};
 ghost use Rattle.xalevinda.specs.Exports.{at_most_word, size_of};
-ghost use Rattle.xalevinda.specs.StoredListing.{Stored, text_of};
+ghost use Rattle.xalevinda.specs.StoredListing.{Stored};
 
 use session::{LONGEST_RECORD, Session};
 use sheet::put;
 use transfer::write::LONGEST_TEXT;
 
-// What an input begins with: the first line of a script, or the records of a state, which a script without first line follows.
-#[derive(Clone, Copy)]
-pub(crate) enum Begins {
-    FirstLine,
-    Records,
+// What is written of an input.
+pub(crate) trait Text {
+    ghost text: { List ℕ → List ℕ };
+
+    // Room that is known to be enough without a run: the largest number where none is known.
+    fn enough(input: &[u8]) -> usize
+        ensures { size_of (text input.now) ≤ result };
+
+    // Runs an input. Writes its text into `out` where it has room, and returns how many bytes it has. Where it has no room `out` holds
+    // parts of it.
+    fn write(input: &[u8], out: &mut [u8]) -> usize
+        ensures { Stored (text input.now) 0 result out.old out.new };
 }
+
+// The listing of a script.
+pub(crate) struct Listing;
+
+// What resuming gives of the records of a state, which a script without first line follows.
+pub(crate) struct Resumed;
 
 // How many lines of an input end in a line feed.
 fn line_feeds(input: &[u8]) -> usize
@@ -31,6 +45,13 @@ pub(crate) fn added(size: usize, more: usize) -> usize
     ensures { result ≡ at_most_word (size + more) }
 {
     size.saturating_add(more)
+}
+
+// A longest record for every line feed and for one line more.
+fn enough_for_records(input: &[u8]) -> usize
+    ensures { at_most_word (84 * suc (length (lines_in input.now).complete)) ≤ result }
+{
+    added(line_feeds(input), 1).saturating_mul(LONGEST_RECORD)
 }
 
 // Feeds a script, or what is left of one, to a session, and ends it. Writes its records into `out` from `begun` on where they have room,
@@ -59,43 +80,50 @@ fn write(start: Session, script: &[u8], out: &mut [u8], begun: usize) -> usize
     added(size, wrote)
 }
 
-// The same for what resuming writes: the answer to the records, and then the records of the script that follows them.
-fn write_resumed(input: &[u8], out: &mut [u8]) -> usize
-    ensures { Stored (resumed input.now) 0 result out.old out.new }
-{
-    let mut line = [0u8; LONGEST_RECORD];
-    let opened = passing::open(input, &mut line);
-    let wrote = opened.wrote;
-    put(out, 0, &line[..wrote]);
-    let session = opened.session;
-    let used = opened.used;
-    write(session, &input[used..], out, wrote)
+impl Text for Listing {
+    ghost text = { listing };
+
+    fn enough(input: &[u8]) -> usize {
+        enough_for_records(input)
+    }
+
+    fn write(input: &[u8], out: &mut [u8]) -> usize {
+        write(session::fresh(), input, out, 0)
+    }
 }
 
-// The same for all that is written of an input.
-fn write_text(begins: Begins, input: &[u8], out: &mut [u8]) -> usize
-    ensures { Stored (text_of begins input.now) 0 result out.old out.new }
-{
-    match begins {
-        Begins::FirstLine => write(session::fresh(), input, out, 0),
-        Begins::Records => write_resumed(input, out),
+impl Text for Resumed {
+    ghost text = { resumed };
+
+    fn enough(input: &[u8]) -> usize {
+        enough_for_records(input)
+    }
+
+    // The answer to the records, and then the records of the script that follows them.
+    fn write(input: &[u8], out: &mut [u8]) -> usize {
+        let mut line = [0u8; LONGEST_RECORD];
+        let opened = passing::open(input, &mut line);
+        let wrote = opened.wrote;
+        put(out, 0, &line[..wrote]);
+        let session = opened.session;
+        let used = opened.used;
+        write(session, &input[used..], out, wrote)
     }
 }
 
 // Writes all that is written of an input at the start of `out`, or nothing where it has no room, and returns how many bytes it has. The input
-// is run once to count them, and once more to write them; once only where `out` has room for a longest record for every line feed and
-// for one line more.
-pub(crate) fn whole(begins: Begins, input: &[u8], out: &mut [u8]) -> usize
-    ensures size { result ≡ size_of (text_of begins input.now) }
-    ensures out { out.new ≡ with_text out.old 0 (text_of begins input.now) }
+// is run once to count them, and once more to write them; once only where `out` is known to have room.
+pub(crate) fn whole<T: Text>(input: &[u8], out: &mut [u8]) -> usize
+    ensures size { result ≡ size_of (T.text input.now) }
+    ensures out { out.new ≡ with_text out.old 0 (T.text input.now) }
 {
-    if line_feeds(input) < out.len() / LONGEST_RECORD {
-        return write_text(begins, input, out);
+    if T::enough(input) <= out.len() {
+        return T::write(input, out);
     }
     let mut nothing = [0u8; 0];
-    let size = write_text(begins, input, &mut nothing);
+    let size = T::write(input, &mut nothing);
     if size <= out.len() {
-        write_text(begins, input, out);
+        T::write(input, out);
     }
     size
 }

@@ -1,10 +1,10 @@
--- `xalevinda::reasoned_text::write` meets its contract: what is left of the script gives what is left to write. Assumes nothing.
+-- `xalevinda::reasoned_text::Reasons::write` meets its contract: what is left of the script gives what is left to write. Assumes nothing.
 use lib.ListN.{length}
 use Rattle.session.specs.Session.{progress_of}
 use Rattle.reason.specs.ReasonedListing.{reasoned}
 use Rattle.xalevinda.proofs.ReasonsStored.{reasons_of}
 use Rattle.xalevinda.proofs.Storing.{Partly}
-use Rattle.xalevinda.proofs.reasoned_text.write.Given as goal
+use Rattle.xalevinda.proofs.reasoned_text.ReasonsText.write.Given as goal
 
 abbrev pub invariant-loop-rest : goal.invariant-loop-rest
 invariant-loop-rest l = Partly (reasoned l.script) (reasons_of (progress_of l.s) l.rest) 0 l.initial.out l.size l.out

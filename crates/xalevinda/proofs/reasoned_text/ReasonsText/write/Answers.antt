@@ -1,4 +1,4 @@
--- `xalevinda::reasoned_text::write` meets its contract: what is left of the script gives what is left to write. Assumes nothing.
+-- `xalevinda::reasoned_text::Reasons::write` meets its contract: what is left of the script gives what is left to write. Assumes nothing.
 use mathlib.Core.Path.{◌≡◌, ap, ◌∙◌}
 use Prim.Native.Nat.{◌^◌, ◌<◌}
 use native.Mathlib.Omega.{arith}
@@ -10,7 +10,7 @@ use Rattle.reasoned.specs.ReasonedSession.{last_told, line_used, told}
 use Rattle.session.specs.Session.{Progress, progress_of}
 use Rattle.xalevinda.proofs.ReasonsStored.{reasons-done, reasons-fed, reasons-less, reasons_of}
 use Rattle.xalevinda.proofs.Storing.{partly-done, partly-more, partly-start}
-use Rattle.xalevinda.proofs.reasoned_text.write.Goals as goal
+use Rattle.xalevinda.proofs.reasoned_text.ReasonsText.write.Goals as goal
 
 pub loop-rest-init : goal.loop-rest-init
 loop-rest-init c =

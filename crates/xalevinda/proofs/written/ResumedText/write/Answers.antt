@@ -1,4 +1,4 @@
--- `xalevinda::written::write_resumed` meets its contract: line 0, and then what the session writes of what follows the records. Assumes
+-- `xalevinda::written::Resumed::write` meets its contract: line 0, and then what the session writes of what follows the records. Assumes
 -- nothing.
 use mathlib.Core.List.{List, ◌++◌, append-nil}
 use mathlib.Core.Path.{◌≡◌, sym, ap, ◌∙◌}
@@ -14,7 +14,7 @@ use Rattle.xalevinda.specs.Exports.{at_most_word}
 use Rattle.xalevinda.specs.StoredListing.{Stored}
 use Rattle.xalevinda.proofs.ListingRoom.{opened-at-most}
 use Rattle.xalevinda.proofs.Storing.{own-text, stored-put, stored-then}
-use Rattle.xalevinda.proofs.written.write_resumed.Goals as goal
+use Rattle.xalevinda.proofs.written.ResumedText.write.Goals as goal
 
 -- Line 0 and what the session writes of the rest are what resuming gives.
 both : (input : List ℕ) → let f = opened input in f.text ++ finished (consumed f.progress (drop f.used input)) ≡ resumed input
