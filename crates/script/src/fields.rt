@@ -2,7 +2,7 @@
 ghost use Rattle.std.specs.Prelude.{◌≡◌, ◌<◌, ◌≤◌, length};
 ghost use Rattle.script.specs.NumberRows.{NumberEnd, fields_after, numbers_after, refusal_in, row_in};
 
-use crate::search::find_byte;
+use crate::search::{find_byte, occurrences};
 use model::answer::Refusal;
 
 // Where the field that starts at `start` ends. Most numbers have one digit, so the byte after it is looked at first.
@@ -25,15 +25,11 @@ pub(crate) fn count_after(line: &[u8], from: usize) -> usize
     if line.len() <= from {
         return 0;
     }
-    1 + line[from + 1..]
-        .iter()
-        .filter(|byte| **byte == b'\t')
-        .count()
+    1 + occurrences(&line[from + 1..], b'\t')
 }
 
 // Why the fields after the one that ends at `from` are refused: there are not `takes` of them, or one is not a number.
 // Only a refused line pays for it.
-#[cold]
 fn refusal(line: &[u8], from: usize, takes: usize) -> Refusal
     ensures { result ≡ refusal_in takes (fields_after line.now from) }
 {

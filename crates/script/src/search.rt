@@ -1,6 +1,6 @@
 // The search for a byte: a tab that ends a field, or a line feed that ends a line. Every public function takes any arguments.
 ghost use Rattle.std.specs.Prelude.{cond, ◌≡◌, ◌+◌, ◌≤◌, ltb, length};
-ghost use Rattle.script.specs.Search.{byte_at};
+ghost use Rattle.script.specs.Search.{byte_at, times};
 
 // Where `byte` next stands from `start` on, or the end of the bytes, as `byte_at` has it. A place past the end is answered as it is.
 // (`position` proves too, and costs 6 instructions a line more.)
@@ -13,6 +13,20 @@ pub fn find_byte(bytes: &[u8], start: usize, byte: u8) -> usize
         }
     }
     start.max(bytes.len())
+}
+
+// How often `byte` stands in the bytes. A loop: the library's `filter` and `count` take twice as long a byte.
+pub fn occurrences(bytes: &[u8], byte: u8) -> usize
+    ensures count { result ≡ times byte bytes.now }
+    ensures within { result ≤ length bytes.now }
+{
+    let mut count: usize = 0;
+    for found in bytes {
+        if *found == byte {
+            count += 1;
+        }
+    }
+    count
 }
 
 // How many of the four bytes from `start` on stand before `byte`.

@@ -9,6 +9,7 @@ ghost use Rattle.session.specs.Session.{consumed, finished, progress_of};
 ghost use Rattle.xalevinda.specs.Exports.{at_most_word, size_of};
 ghost use Rattle.xalevinda.specs.StoredListing.{Stored};
 
+use script::search::occurrences;
 use session::{LONGEST_RECORD, Session};
 use sheet::put;
 use transfer::write::LONGEST_TEXT;
@@ -37,7 +38,7 @@ pub(crate) struct Resumed;
 fn line_feeds(input: &[u8]) -> usize
     ensures { result ≡ length (lines_in input.now).complete }
 {
-    input.iter().filter(|byte| **byte == b'\n').count()
+    occurrences(input, b'\n')
 }
 
 // The sum, or the largest number where it does not fit.
