@@ -1,23 +1,13 @@
 -- Laws of words that are stored into others from a place on. Assumes nothing.
-use mathlib.Core.List.{List, ◌++◌, append_assoc, append-nil}
+use mathlib.Core.List.{List, ◌++◌, append-nil}
 use Rattle.lockstep.specs.MachineWords.{fourth_at, third_at, second_at, records_at}
 use mathlib.Core.Path.{◌≡◌, sym, ap, ◌∙◌}
-use Prim.Native.Nat.{ℕ, ◌+◌, ◌-◌, ◌≤◌}
-use borrow.Rule.Slice.PartMut.{put_mid}
+use Prim.Native.Nat.{ℕ, ◌+◌, ◌≤◌}
 use native.Mathlib.Omega.{arith}
-use lib.ListN.{length, length-append, length-drop, length-take, take, drop, drop_of_length-le, take-append-drop}
-use lib.Seq.{drop-drop, sets, sets-eq, take-add}
+use lib.ListN.{length, length-append, length-drop, length-take, drop, drop_of_length-le, take-append-drop}
+use lib.Seq.{sets, sets-eq, take-add}
 use Rattle.processor.specs.Record.{record_words, part}
 use Rattle.script.proofs.StoredTexts.{sets-append}
-
--- Words copied over a part of others.
-pub words_over : (to : List ℕ) (at : ℕ) (from part : List ℕ) → at + length from ≤ length to → part ≡ from
-    → put_mid at (at + length from - at) to part ≡ sets to at from
-words_over to at from part room e =
-    let size : at + length from - at ≡ length from = omega arith in
-    rw (e, size, sets-eq from to at room)
-    (ap (λ (l : List ℕ). take at to ++ (from ++ l)) (drop-drop (length from) at to)
-    ∙ sym (append_assoc (take at to) from (drop (at + length from) to)))
 
 -- Words that fill an array are all that it then holds.
 pub filled : (to from : List ℕ) → length from ≡ length to → sets to 0 from ≡ from

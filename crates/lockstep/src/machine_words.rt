@@ -11,6 +11,7 @@ use model::quantity::Level;
 use partition::level::Levels;
 use partition::mask::Masks;
 use processor::record::{RECORD_WORDS, Record};
+use script::storing::store;
 use state::parts::Parts;
 
 // The words of the setup.
@@ -51,7 +52,7 @@ pub(crate) fn store_words(to: &mut [u64], at: usize, from: &[u64])
     requires { at + length from.now ≤ length to.old }
     ensures { to.new ≡ sets to.old at from.now }
 {
-    to[at..at + from.len()].copy_from_slice(from);
+    store(to, at, from);
 }
 
 // Stores what a first line says of the setup.

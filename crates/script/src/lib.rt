@@ -15,6 +15,7 @@ use model::quantity::Level;
 mod fields; // the fields of a line, and their numbers
 mod line_events; // the event of each word
 pub mod search; // the search for a byte
+pub mod storing; // elements stored over others
 mod words; // the event words
 
 // The greatest length of a line without its line feed.

@@ -1,23 +1,13 @@
 -- Laws of a text that is put into a buffer, whole or not at all. Assumes nothing.
-use mathlib.Core.List.{List, ◌++◌, append_assoc}
-use mathlib.Core.Path.{◌≡◌, sym, ap, ◌∙◌}
-use Prim.Native.Nat.{ℕ, ◌+◌, ◌-◌, ◌≤◌}
-use borrow.Rule.Slice.PartMut.{put_mid}
+use mathlib.Core.List.{List, ◌++◌}
+use mathlib.Core.Path.{◌≡◌, sym, ◌∙◌}
+use Prim.Native.Nat.{ℕ, ◌+◌, ◌≤◌}
 use native.Mathlib.Omega.{arith}
 use lib.ListN.{drop, length, length-append, take}
-use lib.Seq.{drop-drop, sets, sets-eq, take_at}
+use lib.Seq.{sets, sets-eq, take_at}
 use Rattle.decimal.proofs.TextRoom.{after-room, with-room}
 use Rattle.decimal.specs.Write.{after_text, with_text}
 use Rattle.script.proofs.Cells.{Written, written-length}
-
--- A text was copied over a part of the buffer.
-pub copied : (buffer : List ℕ) (at : ℕ) (text : List ℕ) → at + length text ≤ length buffer
-    → (part : List ℕ) → part ≡ text → put_mid at (at + length text - at) buffer part ≡ with_text buffer at text
-copied buffer at text room part e =
-    let size : at + length text - at ≡ length text = omega arith in
-    rw (e, size, with-room buffer at text room, sets-eq text buffer at room)
-    (ap (λ (l : List ℕ). take at buffer ++ (text ++ l)) (drop-drop (length text) at buffer)
-    ∙ sym (append_assoc (take at buffer) text (drop (at + length text) buffer)))
 
 -- The place and the buffer after a text, as a function promises them.
 abbrev pub Put : List ℕ → ℕ → List ℕ → ℕ → List ℕ → Type 0

@@ -8,6 +8,7 @@ ghost use Rattle.sheet.specs.Sheets.{group, kind_field, longest_sheet, receiver_
 
 use explanation::{Denial, Explanation};
 use model::quantity::Level;
+use script::storing::store;
 
 // Copies a text into `out` from `at` on, and returns the place after it. Where it has no room, nothing is written and `at` is returned.
 pub fn put(out: &mut [u8], at: usize, text: &[u8]) -> usize
@@ -20,9 +21,8 @@ pub fn put(out: &mut [u8], at: usize, text: &[u8]) -> usize
     if out.len() - at < text.len() {
         return at;
     }
-    let end = at + text.len();
-    out[at..end].copy_from_slice(text);
-    end
+    store(out, at, text);
+    at + text.len()
 }
 
 // Writes a tab and a number.

@@ -1,24 +1,12 @@
 -- Laws of texts that are written into a buffer one after the other. Assumes nothing.
-use mathlib.Core.Path.{◌≡◌, sym, ap, ◌∙◌}
-use mathlib.Core.List.{List, [], ◌∷◌, ◌++◌, append_assoc}
-use Prim.Native.Nat.{ℕ, zero, suc, ◌+◌, ◌-◌, ◌≤◌, ◌<◌}
-use borrow.Rule.Slice.PartMut.{put_mid}
+use mathlib.Core.List.{List, [], ◌∷◌, ◌++◌}
+use Prim.Native.Nat.{ℕ, zero, suc, ◌+◌, ◌≤◌, ◌<◌}
 use native.Mathlib.Omega.{arith}
-use lib.ListN.{drop, length, length-append, get_or, take}
-use lib.Seq.{drop-drop, sets, sets-eq}
+use lib.ListN.{length, length-append, get_or, take}
 use Rattle.records.specs.RecordTexts.{closed}
 use Rattle.script.proofs.Cells.{Written, written-length}
 use Rattle.script.specs.LineForms.{tab}
 use Rattle.script.specs.ListingLine.{cell}
-
--- Bytes copied over a part of the buffer.
-pub put_over : (out : List ℕ) (at : ℕ) (word part : List ℕ) → at + length word ≤ length out → part ≡ word
-    → put_mid at (at + length word - at) out part ≡ sets out at word
-put_over out at word part room e =
-    let size : at + length word - at ≡ length word = omega arith in
-    rw (e, size, sets-eq word out at room)
-    (ap (λ (l : List ℕ). take at out ++ (word ++ l)) (drop-drop (length word) at out)
-    ∙ sym (append_assoc (take at out) word (drop (at + length word) out)))
 
 -- One number more with its tab has room where all have.
 pub closed-room : (numbers : List ℕ) (i : ℕ) → i < length numbers

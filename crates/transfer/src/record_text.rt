@@ -9,6 +9,7 @@ ghost use Rattle.transfer.specs.Sent.{first_record_text, record_text};
 use model::machine::Setup;
 use records::head::{indices_of, word_of};
 use records::place::Place;
+use script::storing::store;
 use word::field::one_if;
 
 // Copies bytes into `out` from `at` on, and returns the place after them.
@@ -17,9 +18,8 @@ pub(crate) fn put(out: &mut [u8], at: usize, bytes: &[u8]) -> usize
     ensures value { result ≡ at + length bytes.now }
     ensures out_after { out.new ≡ sets out.old at bytes.now }
 {
-    let end = at + bytes.len();
-    out[at..end].copy_from_slice(bytes);
-    end
+    store(out, at, bytes);
+    at + bytes.len()
 }
 
 // Writes a number and the byte `closing`.

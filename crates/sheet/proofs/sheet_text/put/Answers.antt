@@ -1,7 +1,6 @@
--- The text is copied over the part of the buffer from `at` on. Assumes nothing.
-use Rattle.std.proofs.Common.{sym, arith}
-use Rattle.decimal.proofs.TextRoom.{after-no-room, after-room, with-no-room}
-use Rattle.sheet.proofs.TextPutting.{copied}
+-- The text is stored from `at` on. Assumes nothing.
+use Rattle.std.proofs.Common.{sym, arith, ◌∙◌}
+use Rattle.decimal.proofs.TextRoom.{after-no-room, after-room, with-no-room, with-room}
 use Rattle.sheet.proofs.sheet_text.put.Goals as goal
 
 pub returns-then-out-at-clause-value : goal.returns-then-out-at-clause-value
@@ -24,5 +23,5 @@ returns-clause-value c =
 
 pub returns-clause-out_after : goal.returns-clause-out_after
 returns-clause-out_after c =
-    copied c.args.out.now c.args.at c.args.text.now (omega (arith, c.if-out-at.false, c.if-out-at-2.false))
-    c.copy_from_slice.new.self c.copy_from_slice.ensures.after
+    let room = with-room c.args.out.now c.args.at c.args.text.now (omega (arith, c.if-out-at.false, c.if-out-at-2.false)) in
+    c.store.ensures ∙ sym room
