@@ -1,5 +1,5 @@
 -- An input that is read and fed chunk by chunk, and what is written of it. Assumes nothing.
-use Rattle.std.proofs.Common.{◌≡◌, ℕ, ◌+◌, ◌<◌, ◌≤◌, true, List, [], ◌++◌, None, Some, IfSome, length, take, sym, subst, ap, ◌∙◌, refl, append-nil, arith, length-append}
+use Rattle.std.proofs.Common.{◌≡◌, ℕ, ◌+◌, ◌<◌, ◌≤◌, true, false, List, [], ◌++◌, None, Some, IfSome, length, take, sym, subst, ap, ◌∙◌, refl, append-nil, arith, length-append}
 use Rattle.std.specs.Prelude.{Option}
 use Rattle.std.proofs.KnownBytes.{Appends-nil, Appends-trans, Consumes-nil, Consumes-trans}
 use Rattle.std.specs.Io.KnownBytes.{Appends, Consumes, IsAtEnd}
@@ -7,7 +7,7 @@ use Rattle.session.proofs.Callers.{reached-session, reached-start}
 use Rattle.session.specs.Session.{Ended, Progress, consumed, first, is_stopped, later, progress_of, stopped}
 use Rattle.session.specs.declared.Session.{Session}
 use Rattle.shell.specs.Cutting.{consumed-stopped, progress-joins}
-use Rattle.shell.specs.Turns.{whole}
+use Rattle.shell.specs.Turns.{ReadWhileOpen, whole}
 
 -- So much of an input was read and fed, at least a byte a turn; what is told of it was written, and the session has come so far.
 pub record Ran (told : Progress → List ℕ → List ℕ) (p q : Progress) (had has before then : Option (List ℕ)) (turns : ℕ) : Type 0 where
@@ -16,6 +16,48 @@ pub record Ran (told : Progress → List ℕ → List ℕ) (p q : Progress) (had
   pub taken : Consumes had has input
   pub written : Appends before then (told p input)
   pub counted : turns ≤ length input
+
+-- The same of what was read, the last read apart: the session had not stopped before it, or nothing was read.
+pub record Reads (p q : Progress) (had has : Option (List ℕ)) : Type 0 where
+  pub reads : ReadWhileOpen p had has
+  pub progress : q ≡ (consumed p (reads.before ++ reads.last)).progress
+
+pub reads-start : (s : Session) (had : Option (List ℕ)) → Reads (progress_of s) (progress_of s) had had
+reads-start s had = record {
+  reads = record { before = []; last = []; taken = Consumes-nil had; once = omega arith; open_before = λ stops. refl };
+  progress = reached-session s (reached-start (progress_of s));
+}
+
+-- A session that has not stopped reads a chunk and uses it.
+pub reads-turned : (p q r : Progress) (had has has' : Option (List ℕ)) (chunk : List ℕ) → Reads p q had has → is_stopped q ≡ false → length chunk ≤ 65536
+    → Consumes has has' chunk → r ≡ (consumed q chunk).progress → Reads p r had has'
+reads-turned p q r had has has' chunk w open_still once takes reaches =
+    let input = w.reads.before ++ w.reads.last in
+    record {
+      reads = record {
+        before = input;
+        last = chunk;
+        taken = Consumes-trans had has has' input chunk w.reads.taken takes;
+        once = once;
+        open_before = λ stops. absurd (cc (ap is_stopped w.progress, open_still, stops));
+      };
+      progress = reaches ∙ ap (λ (x : Progress). (consumed x chunk).progress) w.progress ∙ sym (progress-joins p input chunk);
+    }
+
+-- A read that gives nothing changes nothing.
+pub reads-nothing : {p q : Progress} {had has has' : Option (List ℕ)} (n : ℕ) (chunk : List ℕ) → Reads p q had has → n ≡ 0 → Consumes has has' (take n chunk)
+    → ReadWhileOpen p had has'
+reads-nothing {p} {q} {had} {has} {has'} n chunk w empty takes =
+    let input = w.reads.before ++ w.reads.last in
+    let none : take n chunk ≡ [] = ap (λ (m : ℕ). take m chunk) empty in
+    let all : Consumes had has' (input ++ []) = Consumes-trans had has has' input [] w.reads.taken (subst (Consumes has has') none takes) in
+    record {
+      before = w.reads.before;
+      last = w.reads.last;
+      taken = subst (λ (l : List ℕ). Consumes had has' l) (append-nil input) all;
+      once = w.reads.once;
+      open_before = w.reads.open_before;
+    }
 
 -- What is told of nothing is nothing, of two pieces what is told of both, and after a refused first line nothing more.
 module _ (told : Progress → List ℕ → List ℕ) (ending : Progress → List ℕ) (nothing : (p : Progress) → told p [] ≡ [])

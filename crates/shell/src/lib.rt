@@ -3,14 +3,14 @@
 // holds them after. Which bytes the system moves, and what it answers, no contract can say.
 #![tactic(auto)]
 
-ghost use Rattle.std.specs.Prelude.{◌&&◌, ◌≡◌, ◌<◌, ◌^◌, ◌-◌, length, take, IfErr, IfOk, IfSome, IsTrue, OnOk, is_ok};
+ghost use Rattle.std.specs.Prelude.{◌&&◌, ◌≡◌, ◌<◌, ◌^◌, ◌-◌, ◌≤◌, length, take, IfErr, IfOk, IfSome, IsTrue, OnOk, is_ok};
 ghost use Rattle.std.specs.Bool.{IsFalse};
 ghost use Rattle.std.specs.Io.KnownBytes.{Appends};
 ghost use Rattle.std.specs.Process.{exit_status};
 ghost use Rattle.session.specs.Session.{is_stopped, progress_of};
 ghost use Rattle.shell.specs.Names.{Filled, Taken, Within, is_input};
 ghost use Rattle.shell.specs.Report.{is_done, status_of};
-ghost use Rattle.shell.specs.Turns.{Stands, whole};
+ghost use Rattle.shell.specs.Turns.{ReadWhileOpen, Stands, whole};
 
 use session::Session;
 use std::env::{Env, FillError};
@@ -316,6 +316,7 @@ pub fn run<T: Transcript, R: Read, W: Write>(
         length script < 2 ^ 64 - 1 → Appends (W.contents output.old) (W.contents output.new)
         (whole T.told T.ending (progress_of start) script))) }
     ensures unread { IsTrue (is_stopped (progress_of start)) → R.remaining input.new ≡ R.remaining input.old }
+    ensures once { OnOk result (ReadWhileOpen (progress_of start) (R.remaining input.old) (R.remaining input.new)) }
 {
     let mut chunk = buffer::<BUFFER>();
     let mut s = start;
@@ -343,7 +344,9 @@ fn has_argument(rt: &HostRuntime, number: usize) -> bool {
 
 // An argument, put into the buffer, if there is one of that number. One that is longer than any path counts as empty: neither names a file.
 // std's `env::args` answers an error for all where one is not UTF-8; here only that one is refused.
-fn argument<'a>(rt: &HostRuntime, number: usize, buffer: &'a mut [u8]) -> Option<&'a [u8]> {
+fn argument<'a>(rt: &HostRuntime, number: usize, buffer: &'a mut [u8]) -> Option<&'a [u8]>
+    ensures { IfSome result (λ name. length name.now ≤ length buffer.old) }
+{
     match rt.arg(number, buffer) {
         Ok(n) => Some(&buffer[..n]),
         Err(FillError::TooLong) => Some(b""),

@@ -16,7 +16,7 @@ pub returns-then-is_err-clause-unwritten : goal.returns-then-is_err-clause-unwri
 returns-then-is_err-clause-unwritten g c =
     let at = c.loop-rest in
     let some : 0 < length at.rest.now = search rules in
-    used-part c.args.chunk.now at.rest.now at.invariant.1 some
+    search (rules, used-part c.args.chunk.now at.rest.now at.invariant.1 some)
 
 pub loop-rest-preserved : goal.loop-rest-preserved
 loop-rest-preserved g c =
