@@ -1,5 +1,6 @@
 // What stands in a record before its number (head_of of specs/RecordTexts.antt): its word and its indices.
-ghost use Rattle.std.specs.Prelude.{List, [], ◌∷◌, ◌++◌, ◌≡◌, ℕ, ◌≤◌, take};
+ghost use Rattle.std.specs.Prelude.{List, [], ◌∷◌, ◌++◌, ◌≡◌, ℕ, length, take};
+ghost use Rattle.records.specs.FewIndices.{FewNumbers, in_three};
 ghost use Rattle.records.specs.RecordTexts.{head_of};
 ghost use Rattle.script.specs.LineForms.{tab};
 
@@ -11,8 +12,8 @@ const OF_CR0: u64 = 0;
 
 const OF_CR4: u64 = 4;
 
-// At most three indices: the first `count` numbers.
-#[derive(Drop)]
+// At most three indices: the first `count` numbers. Behind them stand zeros, so that the list gives the fields back, as a copy asks.
+#[derive(Clone, Copy)]
 pub struct Indices {
     numbers: [u64; 3],
     count: usize,
@@ -23,7 +24,11 @@ impl Model for Indices {
 
     ghost view = { λ i. take i.count i.numbers };
 
-    ghost invariant = { λ i. i.count ≤ 3 };
+    ghost invariant = { λ i. FewNumbers i.numbers i.count };
+
+    ghost inverse = { λ indices. record { numbers = in_three indices; count = length indices } };
+
+    ghost inverse_ok = { λ i few at. record { numbers = few.zeros at; count = few.counted at } };
 }
 
 impl Indices {

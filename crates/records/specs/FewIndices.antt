@@ -1,0 +1,12 @@
+-- At most three numbers in an array of three, with zeros behind them. Assumes nothing.
+use Rattle.std.specs.Prelude.{◌≡◌, ◌≤◌, ◌-◌, ◌++◌, List, ℕ, length, take, replicate}
+
+-- The numbers in three places.
+abbrev pub in_three : List ℕ → List ℕ
+in_three numbers = numbers ++ replicate (3 - length numbers) 0
+
+-- The first `count` numbers, which are at most three, are all that is not a zero behind them.
+pub record FewNumbers (numbers : List ℕ) (count : ℕ) : Type 0 where
+  pub few : count ≤ 3
+  pub counted : length (take count numbers) ≡ count
+  pub zeros : in_three (take count numbers) ≡ numbers
