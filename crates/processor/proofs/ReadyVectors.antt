@@ -59,10 +59,14 @@ module _ (z : Shape) (ws : List ℕ) (l : ℕ) where
       let word : number_at 4 pending_words (n / 64) ≡ number_at 4 (context z (vp_of ws) l).pending (n / 64) = word_at (n / 64) i ∙ pending-read z ws l (n / 64) i in
       rw (word, tpr-read z ws l))
 
+  -- Where every word of the record is a 64-bit word, the level's are.
+  pub words-fit : ((i : ℕ) → get_or ws i 0 < 2 ^ 64) → (i : ℕ) → i < 4 → word_in z ws l (14 + i) < 2 ^ 64
+  words-fit fits i h = cond-holds (λ n. n < 2 ^ 64) (is_level z l) _ 0 (fits _) (omega arith)
+
   -- So the vector of the top bit decides, by the class.
-  module _ (fits : (i : ℕ) → get_or ws i 0 < 2 ^ 64) where
+  module _ (fits : (i : ℕ) → i < 4 → word_in z ws l (14 + i) < 2 ^ 64) where
     decides : TopVectorDecides vectors
-    decides = top-vector vectors (λ i h. rw (word_at i h) (cond-holds (λ n. n < 2 ^ 64) (is_level z l) _ 0 (fits _) (omega arith)))
+    decides = top-vector vectors (λ i h. rw (word_at i h) (fits i h))
 
     pub words-ready : word_in z ws l 13 < top_vector pending_words / 16 → Some (top_vector pending_words) ≡ above_zero (highest_ready (context z (vp_of ws) l))
     unfolding is_ready above_zero

@@ -2,13 +2,13 @@
 use Rattle.std.proofs.Common.{sym, ◌∙◌, arith, eq-eqb, ne_eqb}
 use Rattle.processor.specs.Record.{vp_of}
 use Rattle.watch.specs.Asking.{asks_for}
-use Rattle.watch.proofs.Watchers.{not_own, told, none_hears}
+use Rattle.watch.proofs.Watchers.{not_own, not-found, told, none_hears}
 use Rattle.watch.proofs.asking.watcher.Goals as goal
 
 pub returns-then-target-active_of : goal.returns-then-target-active_of
 returns-then-target-active_of c =
     let a = c.args in
-    sym (not_own a.shape (vp_of a.vp.now) a.target.0 (asks_for a.access) (rw (← c.active_of.ensures) (ne_eqb _ _ c.if-target-active_of.true)))
+    not-found (not_own a.shape (vp_of a.vp.now) a.target.0 (asks_for a.access) (rw (← c.active_of.ensures) (ne_eqb _ _ c.if-target-active_of.true)))
 
 pub returns-then-hears : goal.returns-then-hears
 returns-then-hears c =
@@ -19,5 +19,5 @@ returns-then-hears c =
 pub returns : goal.returns
 returns c =
     let a = c.args in
-    none_hears a.shape (vp_of a.vp.now) a.target.0 (asks_for a.access) (rw (← c.active_of.ensures) (eq-eqb _ _ c.if-target-active_of.false))
-    (λ k h. c.loop-number.invariant k (omega arith))
+    not-found (none_hears a.shape (vp_of a.vp.now) a.target.0 (asks_for a.access) (rw (← c.active_of.ensures) (eq-eqb _ _ c.if-target-active_of.false))
+    (λ k h. c.loop-number.invariant k (omega arith)))
