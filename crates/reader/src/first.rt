@@ -5,6 +5,7 @@ ghost use Rattle.script.specs.LineForms.{fields};
 
 use model::answer::Refusal;
 use model::machine::FirstLine;
+use script::search::occurrences;
 
 // The fields of a first record.
 const FIRST_FIELDS: usize = 7;
@@ -13,7 +14,7 @@ const FIRST_FIELDS: usize = 7;
 fn field_count(line: &[u8]) -> usize
     ensures { result ≡ length (fields line.now) }
 {
-    1 + line.iter().filter(|byte| **byte == b'\t').count()
+    1 + occurrences(line, b'\t')
 }
 
 // What the first record says.

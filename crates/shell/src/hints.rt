@@ -1,5 +1,6 @@
 // A hint on standard error where the first line of an input is refused: what is wrong with its form. It is an aid for whoever wrote the
 // line. Standard output says the same with it and without it, and no contract speaks of it.
+use script::search::occurrences;
 use session::{LONGEST_RECORD, Session};
 use std::io::{Print, Stderr};
 
@@ -29,7 +30,7 @@ impl Fault {
         if !line.starts_with(b"vsm\t") {
             return Fault::Word;
         }
-        let tabs = line.iter().filter(|byte| **byte == b'\t').count();
+        let tabs = occurrences(line, b'\t');
         if tabs < fewest || FEWEST_TABS + 1 < tabs {
             return Fault::Count;
         }
