@@ -5,7 +5,7 @@ use Rattle.std.specs.Prelude.{◌≡◌, ◌≤◌, ◌-◌, ◌++◌, List, ℕ
 abbrev pub in_three : List ℕ → List ℕ
 in_three numbers = numbers ++ replicate (3 - length numbers) 0
 
--- The first `count` numbers, which are at most three, are all that is not a zero behind them.
+-- Behind the first `count` numbers, at most three, stand zeros alone.
 pub record FewNumbers (numbers : List ℕ) (count : ℕ) : Type 0 where
   pub few : count ≤ 3
   pub counted : length (take count numbers) ≡ count

@@ -12,7 +12,7 @@ const OF_CR0: u64 = 0;
 
 const OF_CR4: u64 = 4;
 
-// At most three indices: the first `count` numbers. Behind them stand zeros, so that the list gives the fields back, as a copy asks.
+// At most three indices: the first `count` numbers. Behind them stand zeros, so that the list gives the fields back, as `Copy` asks.
 #[derive(Clone, Copy)]
 pub struct Indices {
     numbers: [u64; 3],

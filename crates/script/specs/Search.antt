@@ -1,4 +1,4 @@
--- Where a byte next stands in some bytes: a tab that ends a field, or a line feed that ends a line.
+-- Where a byte next stands in some bytes, and how often: a tab that ends a field, or a line feed that ends a line.
 -- Assumes nothing.
 use Rattle.std.specs.Prelude.{cond, List, [], ◌∷◌, ℕ, suc, ◌+◌, eqb, drop, count_by}
 

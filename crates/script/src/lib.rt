@@ -14,7 +14,7 @@ use model::quantity::Level;
 
 mod fields; // the fields of a line, and their numbers
 mod line_events; // the event of each word
-pub mod search; // the search for a byte
+pub mod search; // where a byte stands, and how often
 pub mod storing; // elements stored over others
 mod words; // the event words
 

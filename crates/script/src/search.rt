@@ -1,4 +1,4 @@
-// The search for a byte: a tab that ends a field, or a line feed that ends a line. Every public function takes any arguments.
+// Where a byte stands, and how often: a tab that ends a field, or a line feed that ends a line. Every public function takes any arguments.
 ghost use Rattle.std.specs.Prelude.{cond, ◌≡◌, ◌+◌, ◌≤◌, ltb, length};
 ghost use Rattle.script.specs.Search.{byte_at, times};
 

@@ -3,7 +3,7 @@ ghost use Rattle.std.specs.Prelude.{◌≡◌, ◌+◌, ◌≤◌, length};
 ghost use Rattle.std.proofs.lemmas.List.Edits.{sets};
 
 // Stores `from` over the elements from `at` on. A loop, and not `copy_from_slice`: of that the compiler makes `memmove` where it cannot tell
-// the two apart, and a program in C would have to bring one more function.
+// that the two do not overlap, and a freestanding program would have to bring that too.
 pub fn store<T: Copy>(to: &mut [T], at: usize, from: &[T])
     requires { at + length from.now ≤ length to.old }
     ensures { to.new ≡ sets to.old at from.now }

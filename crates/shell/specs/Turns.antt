@@ -13,8 +13,8 @@ pub record Stands (p : Progress) (input : List ℕ) (q : Progress) : Type 0 wher
 abbrev pub whole : (Progress → List ℕ → List ℕ) → (Progress → List ℕ) → Progress → List ℕ → List ℕ
 whole told ending p script = told p script ++ ending (consumed p script).progress
 
--- What was read of an input by a session that was at p: some bytes, and then those of the last read, as many at most as a buffer has. Where the session
--- had stopped before that read, nothing was read at all: so a session that has stopped reads nothing more.
+-- What was read of an input by a session that was at p: some bytes, and then at most as many more as a buffer holds. If the session had stopped after the
+-- first of these, nothing was read at all: so beyond a buffer's bytes nothing is read of what follows a refused first line.
 pub record ReadWhileOpen (p : Progress) (had has : Option (List ℕ)) : Type 0 where
   pub before : List ℕ
   pub last : List ℕ
